@@ -1,0 +1,10 @@
+pub mod Sum
+pub mod Totals
+pub mod Places
+pub mod Chains
+pub mod Corners
+pub mod Grid
+pub mod GridList
+pub mod Fan
+pub mod Capped
+pub mod Matching

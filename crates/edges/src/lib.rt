@@ -1,0 +1,1 @@
+// Theorems on the directed edges of triangle lists: see specs/ and proofs/.

@@ -1,0 +1,3 @@
+pub mod WholeRoot
+pub mod Root
+pub mod Near

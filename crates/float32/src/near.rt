@@ -1,0 +1,54 @@
+// The whole number nearest to a root: guessed, checked by comparing squares, and searched for where the guess is wrong.
+ghost use Prim.Native.Nat.{_<_, _≤_};
+ghost use Rattle.float32.specs.Near.{Near};
+
+// About 2 ^ 29 + √z, for the z from 1 to 4 whose pattern is t places past that of 1. The pattern of 1 / √z is near a constant less half
+// that of z, so y is near 1 / √z and d near 1, and a polynomial in d mends s. Nothing is promised: the caller checks.
+pub fn guess(t: u64) -> f64
+    requires { ⌜ t < 16777216 ⌝ }
+{
+    let b = t * 536870912 + 4607182418800017408;
+    let y = f64::from_bits(6910395671077978112 - b / 2);
+    let s = f64::from_bits(b) * y;
+    let d = s * y;
+    let u = (d - 3.0204603475409460717) * d + 1.6084860037819542911;
+    s * 0.30048789806358582843 * ((u + (d + 1.0508324473926347629)) * u + 4.0030886002045186424)
+        + 536870911.999999940395355224609375
+}
+
+fn by_halves(n: u64) -> u64
+    requires { ⌜ (0 < n) × (n < 281474976710656) ⌝ }
+    ensures { λ g. ⌜ Near n g ⌝ }
+{
+    let mut lo = 0u64;
+    let mut hi = 16777216u64;
+    while lo + 1 < hi {
+        let mid = (lo + hi) / 2;
+        if mid * mid + mid < n {
+            lo = mid;
+        } else {
+            hi = mid;
+        }
+    }
+    hi
+}
+
+// The whole number nearest to the root of n: q or the next one, where the root is within one of the middle between them. The guess d
+// has q in its last digits.
+pub fn near_root(n: u64, d: f64) -> u64
+    requires { ⌜ (0 < n) × (n < 281474976710656) ⌝ }
+    ensures { λ g. ⌜ Near n g ⌝ }
+{
+    if d != d {
+        return by_halves(n);
+    }
+    let q = f64::to_bits(d) % 33554432;
+    let w = q * q + q;
+    if w < n + 2 * q && n <= w + 2 * q {
+        if w < n {
+            return q + 1;
+        }
+        return q;
+    }
+    by_halves(n)
+}

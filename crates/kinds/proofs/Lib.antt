@@ -1,0 +1,5 @@
+pub mod Tests
+pub mod Bounds
+pub mod Shift
+pub mod AsSurface
+pub mod Claims

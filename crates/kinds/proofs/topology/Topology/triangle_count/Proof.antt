@@ -1,0 +1,74 @@
+-- Each kind answers for its own case. Assumes nothing.
+use borrow.Author.Needs.{needs}
+use Rattle.kinds.proofs.topology.Topology.triangle_count.Statement.{statement}
+use Rattle.kinds.proofs.topology.Topology.triangle_count.Tie as tie
+use Rattle.kinds.proofs.capsule.Capsule.triangle_count.Reads as capsule-Capsule-triangle-count-reads
+use Rattle.kinds.proofs.closed_cylinder.ClosedCylinder.triangle_count.Reads as closed-cylinder-ClosedCylinder-triangle-count-reads
+use Rattle.kinds.proofs.ribbon.Ribbon.triangle_count.Reads as ribbon-Ribbon-triangle-count-reads
+use Rattle.kinds.proofs.torus.Torus.triangle_count.Reads as torus-Torus-triangle-count-reads
+use Rattle.kinds.proofs.tube.Tube.triangle_count.Reads as tube-Tube-triangle-count-reads
+
+enum-known-self : tie.Need-enum-known-self
+enum-known-self c = search needs
+
+triangle-count-requires : tie.Need-triangle-count-requires
+triangle-count-requires c κs = search needs
+
+enum-known-self-2 : tie.Need-enum-known-self-2
+enum-known-self-2 c = search needs
+
+triangle-count-requires-2 : tie.Need-triangle-count-requires-2
+triangle-count-requires-2 c κs = search needs
+
+enum-known-self-3 : tie.Need-enum-known-self-3
+enum-known-self-3 c = search needs
+
+triangle-count-requires-3 : tie.Need-triangle-count-requires-3
+triangle-count-requires-3 c κs = search needs
+
+enum-known-self-4 : tie.Need-enum-known-self-4
+enum-known-self-4 c = search needs
+
+triangle-count-requires-4 : tie.Need-triangle-count-requires-4
+triangle-count-requires-4 c κs = search needs
+
+enum-known-self-5 : tie.Need-enum-known-self-5
+enum-known-self-5 c = search needs
+
+triangle-count-requires-5 : tie.Need-triangle-count-requires-5
+triangle-count-requires-5 c κs = search needs
+
+returns : tie.Need-returns
+returns c = cc
+
+returns-2 : tie.Need-returns-2
+returns-2 c = cc
+
+returns-3 : tie.Need-returns-3
+returns-3 c = cc
+
+returns-4 : tie.Need-returns-4
+returns-4 c = cc
+
+returns-5 : tie.Need-returns-5
+returns-5 c = cc
+
+pub triangle-count-spec : {M : Type 1} → statement M
+triangle-count-spec =
+    tie.close
+    (tie.spec
+    enum-known-self
+    triangle-count-requires
+    enum-known-self-2
+    triangle-count-requires-2
+    enum-known-self-3
+    triangle-count-requires-3
+    enum-known-self-4
+    triangle-count-requires-4
+    enum-known-self-5
+    triangle-count-requires-5
+    returns
+    returns-2
+    returns-3
+    returns-4
+    returns-5)

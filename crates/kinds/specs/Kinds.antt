@@ -1,0 +1,62 @@
+-- The five kinds by their numbers: what is permitted, how many vertices and triangles, and which triangles. Document 01, 'Triangle lists'
+-- and 'Refused, and through whom'. Definitions only.
+use mathlib.Core.Bool.{Bool, true, false, cond, _&&_}
+use mathlib.Core.List.{List}
+use Prim.Native.Nat.{ℕ, _+_, _-_, _*_, _^_}
+use lib.Dec.{leb}
+use Rattle.surface.specs.Triangles.{Triangle}
+use Rattle.surface.specs.declared.grid.Chain.the-variants.{Open, Closed}
+use Rattle.surface.specs.declared.quads.Split.the-variants as Split
+use Rattle.surface.specs.declared.whole.Surface.{Surface}
+use Rattle.kinds.specs.Limits.{segmentsPermitted, loopPermitted, divisionsPermitted, longitudesPermitted, layersPermitted}
+use Rattle.kinds.specs.Lists.{closedTriangles, torusTriangles, tubeTriangles, ribbonTriangles}
+use Rattle.kinds.specs.declared.capsule.Capsule as Capsules
+use Rattle.kinds.specs.declared.topology.Topology.{Topology}
+use Rattle.kinds.specs.declared.topology.Topology.the-variants.{Ribbon, Tube, Capsule, Torus, ClosedCylinder}
+
+-- "A capsule has S = 2L + m − 2": 2L + m steps from pole to pole.
+abbrev pub stepsOf : Capsules.Capsule → ℕ
+stepsOf k = 2 * k .longitudes + k .segments
+
+abbrev pub layersOf : Capsules.Capsule → ℕ
+layersOf k = stepsOf k - 2
+
+abbrev pub permitted : Topology → Bool
+permitted (Ribbon k) = segmentsPermitted (k .segments)
+permitted (Tube k) = divisionsPermitted (k .divisions) && segmentsPermitted (k .segments)
+permitted (Capsule k) = divisionsPermitted (k .divisions) && (segmentsPermitted (k .segments) && longitudesPermitted (k .longitudes) (k .segments))
+permitted (Torus k) = divisionsPermitted (k .divisions) && loopPermitted (k .vertices)
+permitted (ClosedCylinder k) = divisionsPermitted (k .divisions) && layersPermitted (k .layers)
+
+abbrev pub vertexCount : Topology → ℕ
+vertexCount (Ribbon k) = 2 * (k .segments + 1)
+vertexCount (Tube k) = k .divisions * (k .segments + 1)
+vertexCount (Capsule k) = k .divisions * (layersOf k + 1) + 2
+vertexCount (Torus k) = k .vertices * k .divisions
+vertexCount (ClosedCylinder k) = k .divisions * (k .layers + 1) + 2
+
+abbrev pub triangleCount : Topology → ℕ
+triangleCount (Ribbon k) = 2 * k .segments
+triangleCount (Tube k) = 2 * k .divisions * k .segments
+triangleCount (Capsule k) = 2 * k .divisions * (layersOf k + 1)
+triangleCount (Torus k) = 2 * k .vertices * k .divisions
+triangleCount (ClosedCylinder k) = 2 * k .divisions * (k .layers + 1)
+
+abbrev pub trianglesOf : Topology → List Triangle
+trianglesOf (Ribbon k) = ribbonTriangles (k .segments)
+trianglesOf (Tube k) = tubeTriangles (k .divisions) (k .segments)
+trianglesOf (Capsule k) = closedTriangles (k .divisions) (layersOf k)
+trianglesOf (Torus k) = torusTriangles (k .divisions) (k .vertices)
+trianglesOf (ClosedCylinder k) = closedTriangles (k .divisions) (k .layers)
+
+-- Whether a body's triangles can be written from `first` on into a buffer of `room` numbers: document 01 has no total above 2 ^ 28.
+unfoldable pub writable : Topology → ℕ → ℕ → Bool
+writable t first room = permitted t && (leb (first + vertexCount t) (2 ^ 28) && leb (3 * triangleCount t) room)
+
+-- The grid, alone or capped, whose list the body's is.
+abbrev pub surfaceOf : Topology → Surface
+surfaceOf (Ribbon k) = record { split = Split.Ribbon; along = Open; rows = k .segments; round = Open; columns = 1; capped = false }
+surfaceOf (Tube k) = record { split = Split.Tube; along = Open; rows = k .segments; round = Closed; columns = k .divisions; capped = false }
+surfaceOf (Capsule k) = record { split = Split.Capped; along = Open; rows = layersOf k; round = Closed; columns = k .divisions; capped = true }
+surfaceOf (Torus k) = record { split = Split.Torus; along = Closed; rows = k .vertices; round = Closed; columns = k .divisions; capped = false }
+surfaceOf (ClosedCylinder k) = record { split = Split.Capped; along = Open; rows = k .layers; round = Closed; columns = k .divisions; capped = true }

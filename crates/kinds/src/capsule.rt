@@ -1,0 +1,92 @@
+ghost use mathlib.Core.Path.{_≡_};
+ghost use mathlib.Core.Bool.{true};
+ghost use Rattle.kinds.specs.Kinds.{permitted, vertexCount, triangleCount, surfaceOf, stepsOf, layersOf};
+ghost use Rattle.kinds.specs.Limits.{longitudesPermitted};
+ghost use Rattle.kinds.specs.declared.topology.Topology.{Topology};
+use crate::limits;
+use surface::Chain;
+use surface::Split;
+use surface::Surface;
+
+// A capsule with so many divisions round and longitude divisions in each cap, along a curve of so many segments.
+pub struct Capsule {
+    pub divisions: u16,
+    pub longitudes: u16,
+    pub segments: u16,
+}
+
+impl Capsule {
+    pub const LEAST_DIVISIONS: u16 = limits::LEAST_DIVISIONS;
+
+    pub const MOST_DIVISIONS: u16 = limits::MOST_DIVISIONS;
+
+    pub const LEAST_SEGMENTS: u16 = limits::LEAST_SEGMENTS;
+
+    pub const MOST_SEGMENTS: u16 = limits::MOST_SEGMENTS;
+
+    pub const MOST_LONGITUDES: u16 = 256;
+    // Both caps and the segments together: fewer would leave no layer of quads.
+    pub const LEAST_STEPS: u32 = 3;
+
+    pub fn is_permitted(self) -> bool
+        ensures { λ r. ⌜ r ≡ permitted (Topology.Capsule self) ⌝ }
+    {
+        if limits::is_between(Self::LEAST_DIVISIONS, Self::MOST_DIVISIONS, self.divisions) {
+            return limits::is_between(Self::LEAST_SEGMENTS, Self::MOST_SEGMENTS, self.segments)
+                && self.are_longitudes_permitted();
+        }
+        false
+    }
+
+    fn are_longitudes_permitted(self) -> bool
+        ensures { λ r. ⌜ r ≡ longitudesPermitted (self .longitudes) (self .segments) ⌝ }
+    {
+        self.longitudes <= Self::MOST_LONGITUDES && Self::LEAST_STEPS <= self.steps()
+    }
+
+    // The steps of a line from pole to pole: both caps and the segments.
+    fn steps(self) -> u32
+        ensures { λ r. ⌜ r ≡ stepsOf self ⌝ }
+    {
+        2 * self.longitudes as u32 + self.segments as u32
+    }
+
+    // The layers of quads between the caps.
+    fn layers(self) -> u32
+        ensures { λ r. ⌜ r ≡ layersOf self ⌝ }
+    {
+        let steps = self.steps();
+        if steps < 2 {
+            return 0;
+        }
+        steps - 2
+    }
+
+    pub fn vertex_count(self) -> u64
+        ensures { λ r. ⌜ r ≡ vertexCount (Topology.Capsule self) ⌝ }
+    {
+        limits::product(self.divisions, self.layers() + 1) + 2
+    }
+
+    pub fn triangle_count(self) -> u64
+        ensures { λ r. ⌜ r ≡ triangleCount (Topology.Capsule self) ⌝ }
+    {
+        2 * limits::product(self.divisions, self.layers() + 1)
+    }
+
+    // The grid of quads that the body's list is made of.
+    pub(crate) fn surface(self) -> Surface
+        requires { ⌜ permitted (Topology.Capsule self) ≡ true ⌝ }
+        ensures { λ r. ⌜ r ≡ surfaceOf (Topology.Capsule self) ⌝ }
+    {
+        let layers = self.layers();
+        Surface {
+            split: Split::Capped,
+            along: Chain::Open,
+            rows: layers as u16,
+            round: Chain::Closed,
+            columns: self.divisions,
+            capped: true,
+        }
+    }
+}

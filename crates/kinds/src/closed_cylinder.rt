@@ -1,0 +1,56 @@
+ghost use mathlib.Core.Path.{_≡_};
+ghost use Rattle.kinds.specs.Kinds.{permitted, vertexCount, triangleCount, surfaceOf};
+ghost use Rattle.kinds.specs.declared.topology.Topology.{Topology};
+use crate::limits;
+use surface::Chain;
+use surface::Split;
+use surface::Surface;
+
+// A closed cylinder with so many divisions round and so many layers.
+pub struct ClosedCylinder {
+    pub divisions: u16,
+    pub layers: u16,
+}
+
+impl ClosedCylinder {
+    pub const LEAST_DIVISIONS: u16 = limits::LEAST_DIVISIONS;
+
+    pub const MOST_DIVISIONS: u16 = limits::MOST_DIVISIONS;
+
+    pub const LEAST_LAYERS: u16 = 1;
+
+    pub const MOST_LAYERS: u16 = 4096;
+
+    pub fn is_permitted(self) -> bool
+        ensures { λ r. ⌜ r ≡ permitted (Topology.ClosedCylinder self) ⌝ }
+    {
+        limits::is_between(Self::LEAST_DIVISIONS, Self::MOST_DIVISIONS, self.divisions)
+            && limits::is_between(Self::LEAST_LAYERS, Self::MOST_LAYERS, self.layers)
+    }
+
+    pub fn vertex_count(self) -> u64
+        ensures { λ r. ⌜ r ≡ vertexCount (Topology.ClosedCylinder self) ⌝ }
+    {
+        limits::product(self.divisions, self.layers as u32 + 1) + 2
+    }
+
+    pub fn triangle_count(self) -> u64
+        ensures { λ r. ⌜ r ≡ triangleCount (Topology.ClosedCylinder self) ⌝ }
+    {
+        2 * limits::product(self.divisions, self.layers as u32 + 1)
+    }
+
+    // The grid of quads that the body's list is made of.
+    pub(crate) fn surface(self) -> Surface
+        ensures { λ r. ⌜ r ≡ surfaceOf (Topology.ClosedCylinder self) ⌝ }
+    {
+        Surface {
+            split: Split::Capped,
+            along: Chain::Open,
+            rows: self.layers,
+            round: Chain::Closed,
+            columns: self.divisions,
+            capped: true,
+        }
+    }
+}

@@ -1,0 +1,26 @@
+ghost use mathlib.Core.Path.{_≡_};
+ghost use Prim.Native.Nat.{_*_, _<_, _^_};
+ghost use Rattle.kinds.specs.Limits.{between};
+
+// Limits that several kinds share; each kind has its own as associated constants.
+pub(crate) const LEAST_DIVISIONS: u16 = 3;
+
+pub(crate) const MOST_DIVISIONS: u16 = 256;
+// A curve of 2 to 4,096 vertices.
+pub(crate) const LEAST_SEGMENTS: u16 = 1;
+
+pub(crate) const MOST_SEGMENTS: u16 = 4095;
+
+pub(crate) fn is_between(least: u16, most: u16, x: u16) -> bool
+    ensures { λ r. ⌜ r ≡ between least most x ⌝ }
+{
+    least <= x && x <= most
+}
+
+// A product of two sizes, which fits whatever they are.
+pub(crate) fn product(a: u16, b: u32) -> u64
+    ensures { λ r. ⌜ r ≡ a * b ⌝ }
+    ensures { λ r. ⌜ r < 2 ^ 48 ⌝ }
+{
+    a as u64 * b as u64
+}

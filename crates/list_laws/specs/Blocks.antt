@@ -1,0 +1,43 @@
+-- A list made of blocks, one after the other, and the law of every loop that writes one. Assumes nothing.
+use mathlib.Core.Path.{_≡_, refl, sym, ap, _∙_}
+use mathlib.Core.List.{List, [], _∷_, _++_, append-assoc}
+use Prim.Native.Nat.{ℕ, zero, suc, _+_, _*_, _≤_, _<_}
+use native.Mathlib.Nat.{suc-mul}
+use native.Mathlib.Numerals.{add-one}
+use native.Mathlib.Omega.{arith}
+use lib.ListN.{length, length-append}
+use Rattle.list_laws.specs.Overwrite.{overwrite, overwrite-append}
+
+module _ {ℓ} {A : Type ℓ} where
+  -- f 0, then f 1, up to f (n - 1), one after the other; it grows at its end, as the loop that writes it does
+  abbrev pub blocks : ℕ → (ℕ → List A) → List A
+  blocks zero f = []
+  blocks (suc n) f = blocks n f ++ f n
+
+  pub length-blocks : (c n : ℕ) (f : ℕ → List A) → ((k : ℕ) → k < n → length (f k) ≡ c) → length (blocks n f) ≡ n * c
+  length-blocks c zero f h = omega arith
+  length-blocks c (suc n) f h =
+      length-append (blocks n f) (f n)
+      ∙ ap (λ (k : ℕ). k + length (f n)) (length-blocks c n f (λ k l. h k (omega arith)))
+      ∙ ap (λ (k : ℕ). n * c + k) (h n (omega arith))
+      ∙ sym (suc-mul n c)
+
+  pub blocks-cong : (n : ℕ) (f g : ℕ → List A) → ((k : ℕ) → k < n → f k ≡ g k) → blocks n f ≡ blocks n g
+  blocks-cong zero f g h = refl
+  blocks-cong (suc n) f g h =
+      ap (λ (l : List A). l ++ f n) (blocks-cong n f g (λ k l. h k (omega arith))) ∙ ap (λ (l : List A). blocks n g ++ l) (h n (omega arith))
+
+  -- A turn of a loop that writes blocks of c elements: it finds t, with i blocks written, and leaves t′, having written v at p.
+  pub one-more : (at i c : ℕ) (f : ℕ → List A) (t₀ : List A) {t t′ v : List A} {p : ℕ} → ((k : ℕ) → k < i → length (f k) ≡ c)
+      → t ≡ overwrite at (blocks i f) t₀ → p ≡ at + i * c → t′ ≡ overwrite p v t → v ≡ f i → t′ ≡ overwrite at (blocks (i + 1) f) t₀
+  one-more at i c f t₀ {t} {t′} {v} {p} sized before place written is =
+      written
+      ∙ ap (λ (w : List A). overwrite p w t) is
+      ∙ ap (λ (s : List A). overwrite p (f i) s) before
+      ∙ ap (λ (k : ℕ). overwrite k (f i) (overwrite at (blocks i f) t₀)) (place ∙ ap (λ (k : ℕ). at + k) (sym (length-blocks c i f sized)))
+      ∙ overwrite-append at (blocks i f) (f i) t₀
+      ∙ ap (λ (k : ℕ). overwrite at (blocks k f) t₀) (sym (add-one i))
+
+  -- what such a loop leaves, once its count is n
+  pub all-written : (at : ℕ) (f : ℕ → List A) (t₀ : List A) {t : List A} {i n : ℕ} → t ≡ overwrite at (blocks i f) t₀ → i ≡ n → t ≡ overwrite at (blocks n f) t₀
+  all-written at f t₀ {t} {i} {n} so e = so ∙ ap (λ (k : ℕ). overwrite at (blocks k f) t₀) e

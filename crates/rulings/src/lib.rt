@@ -1,0 +1,1 @@
+// The rulings of document 01 as one proved list: see specs/.

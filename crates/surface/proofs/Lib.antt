@@ -1,0 +1,5 @@
+pub mod Chains
+pub mod Flatten
+pub mod Pieces
+pub mod Counts
+pub mod Room

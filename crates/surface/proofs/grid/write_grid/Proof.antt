@@ -1,0 +1,150 @@
+-- Each turn of the loop writes one row behind the last. Assumes nothing.
+use mathlib.Core.Path.{_≡_, refl, sym, ap, _∙_}
+use Prim.Native.Nat.{_+_, _*_, _-_, _^_, _≤_}
+use native.Mathlib.Nat.{mul-assoc}
+use native.Mathlib.Omega.{arith}
+use borrow.Author.Needs.{needs}
+use denote.Ref.{now}
+use lib.ListN.{length}
+use Rattle.list_laws.specs.Overwrite.{overwrite, overwrite-none}
+use Rattle.list_laws.specs.Blocks.{blocks, one-more}
+use Rattle.list_laws.specs.Products.{next-row, row-within}
+use Rattle.surface.specs.Triangles.{flatten}
+use Rattle.surface.specs.Grid.{afterOf, pointsOf, rowTriangles}
+use Rattle.surface.specs.Whole.{ringCount, ringSize}
+use Rattle.surface.proofs.Chains.{after-lt, points-bounds}
+use Rattle.surface.proofs.Flatten.{numbers, blocks-written}
+use Rattle.surface.proofs.Pieces.{rowAt, length-rowAt}
+use Rattle.surface.proofs.grid.write_grid.Statement.{statement}
+use Rattle.surface.proofs.grid.write_grid.Tie as tie
+
+abbrev Inv-loop : tie.InvT-loop
+Inv-loop out₀ at base split along round rows columns ring place₀ low₀ g₀ out place low g =
+    (out ≡ overwrite at (blocks g (numbers (rowAt split round columns along rows base))) out₀)
+    × (place ≡ at + g * columns * 6)
+    × (low ≡ base + g * pointsOf round columns)
+    × (g ≤ rows)
+    × (length out ≡ length out₀)
+
+abbrev μ-loop : tie.MeasureT-loop
+μ-loop out₀ at base split along round rows columns ring place₀ low₀ g₀ out place low g = rows - g
+
+-- the row of a turn: its two rings and its place are within bounds
+facts : (c : tie.In-loop Inv-loop μ-loop) → let a = c .before .before .before .before .before .before .args in
+    let l = c .before .loop in
+    (l .low + ringSize (a .s) ≤ 2 ^ 28)
+    × (a .base + afterOf (a .s .along) (a .s .rows) (l .g) * ringSize (a .s) + ringSize (a .s) ≤ 2 ^ 28)
+    × (l .place + a .s .columns * 6 ≤ length (now (a .out)))
+facts c =
+    let a = c .before .before .before .before .before .before .args in
+    let s = a .s in
+    let g = c .before .loop .g in
+    let along = points-bounds (s .along) (s .rows) in
+    omega (
+      arith,
+      row-within g (ringCount s) (ringSize s) (omega arith),
+      row-within (afterOf (s .along) (s .rows) g) (ringCount s) (ringSize s) (after-lt (s .along) (s .rows) g (c .loop-test .taken)),
+      row-within g (s .rows) (s .columns) (c .loop-test .taken),
+      c .before .before .before .before .before .before .pre,
+    )
+
+-- how far the ring after row g lies behind the first
+rise : (c : tie.After-after Inv-loop μ-loop) → let s = c .before .before .before .before .before .before .before .args .s in
+    c .after .result * c .before .before .before .ring-size .result ≡ afterOf (s .along) (s .rows) (c .before .before .loop .g) * ringSize s
+rise c = λ i. c .after .ensures i * c .before .before .before .ring-size .ensures i
+
+cast-rows : tie.Need-cast-rows Inv-loop μ-loop
+cast-rows c = search needs
+
+cast-columns : tie.Need-cast-columns Inv-loop μ-loop
+cast-columns c = search needs
+
+ring-size-requires : tie.Need-ring-size-requires Inv-loop μ-loop
+ring-size-requires c κs = search needs
+
+loop-holds : tie.Need-loop-holds Inv-loop μ-loop
+loop-holds c = (sym (overwrite-none _ _), omega arith, omega arith, omega arith, refl)
+
+after-requires : tie.Need-after-requires Inv-loop μ-loop
+after-requires c κs = omega arith
+
+mul-high : tie.Need-mul-high Inv-loop μ-loop
+mul-high c = omega (arith, facts (c .before), rise c)
+
+add-high : tie.Need-add-high Inv-loop μ-loop
+add-high c = omega (arith, facts (c .before), rise c)
+
+write-row-requires : tie.Need-write-row-requires Inv-loop μ-loop
+write-row-requires c κs =
+    let f = facts (c .before .before) in
+    let r = rise (c .before) in
+    record { low-numbers = omega arith; high-numbers = omega arith; within = omega arith }
+
+cast-place : tie.Need-cast-place Inv-loop μ-loop
+cast-place c = search needs
+
+mul-place : tie.Need-mul-place Inv-loop μ-loop
+mul-place c = search needs
+
+add-place : tie.Need-add-place Inv-loop μ-loop
+add-place c = omega (arith, facts (c .before .before .before .before .before))
+
+add-low : tie.Need-add-low Inv-loop μ-loop
+add-low c = omega (arith, facts (c .before .before .before .before .before))
+
+add-g : tie.Need-add-g Inv-loop μ-loop
+add-g c = omega arith
+
+loop-less : tie.Need-loop-less Inv-loop μ-loop
+loop-less c = omega arith
+
+loop-again : tie.Need-loop-again Inv-loop μ-loop
+loop-again c = let l = c .before .before .before .before .before .before .loop in
+    let a = c .before .before .before .before .before .before .before .before .before .before .before .args in
+    let s = a .s in
+    let r = rise (c .before .before .before .before) in
+    let w = c .before .before .before .before .before .before .before .ring-size in (
+      one-more (a .at) (l .g) (s .columns * 6) (numbers (rowAt (s .split) (s .round) (s .columns) (s .along) (s .rows) (a .base))) (now (a .out))
+          (λ k h. length-rowAt (s .split) (s .round) (s .columns) (s .along) (s .rows) (a .base) k) (l .inv .0)
+          (l .inv .1 ∙ ap (λ k. a .at + k) (mul-assoc (l .g) (s .columns) 6)) (c .before .before .write-row .ensures)
+          (λ i. flatten (rowTriangles (s .split) (s .round) (s .columns) (l .inv .2 i) (a .base + r i))),
+      omega (arith, next-row (l .g) (s .columns)),
+      omega (arith, next-row (l .g) (ringSize s), w .ensures),
+      omega arith,
+      c .before .before .write-row .kept .0 ∙ l .inv .4,
+    )
+
+same-length : tie.Need-same-length Inv-loop μ-loop
+same-length c = c .before .loop .inv .4
+
+returns : tie.Need-returns Inv-loop μ-loop
+returns c = let o = c .before .loop in
+    let a = c .before .before .before .before .before .before .args in
+    let s = a .s in
+    let f = rowAt (s .split) (s .round) (s .columns) (s .along) (s .rows) (a .base) in
+    let e : o .g ≡ s .rows = omega arith in
+    blocks-written (a .at) f (now (a .out)) (o .inv .0) e
+
+pub write-grid-spec : {M : Type 1} → statement M
+write-grid-spec =
+    tie.close
+    (tie.spec
+    Inv-loop
+    μ-loop
+    cast-rows
+    cast-columns
+    ring-size-requires
+    loop-holds
+    after-requires
+    mul-high
+    add-high
+    write-row-requires
+    cast-place
+    mul-place
+    add-place
+    add-low
+    add-g
+    loop-less
+    loop-again
+    same-length
+    returns)

@@ -1,0 +1,36 @@
+-- A grid of quads: the one device behind the lists of all kinds. Definitions only.
+use mathlib.Core.List.{List}
+use Prim.Native.Nat.{ℕ, _+_, _*_, _%_, _^_, _≤_}
+use Rattle.list_laws.specs.Blocks.{blocks}
+use Rattle.surface.specs.Triangles.{Triangle}
+use Rattle.surface.specs.Quads.{quadOf}
+use Rattle.surface.specs.declared.quads.Split.{Split}
+use Rattle.surface.specs.declared.grid.Chain.{Chain}
+use Rattle.surface.specs.declared.grid.Chain.the-variants.{Open, Closed}
+
+-- The point after point i on a chain of n steps: "ring indices i and i + 1 wrap at n".
+abbrev pub afterOf : Chain → ℕ → ℕ → ℕ
+afterOf Open n i = i + 1
+afterOf Closed n i = (i + 1) % n
+
+-- How many points a chain of n steps has.
+abbrev pub pointsOf : Chain → ℕ → ℕ
+pointsOf Open n = n + 1
+pointsOf Closed n = n
+
+-- A row of n quads between the rings whose first vertices are low and high.
+abbrev pub rowTriangles : Split → Chain → ℕ → ℕ → ℕ → List Triangle
+rowTriangles split round n low high =
+    blocks n (λ i. quadOf split (low + i) (low + afterOf round n i) (high + i) (high + afterOf round n i))
+
+-- m rows of n quads; vertex i of ring g is base + g * w + i, where a ring has w vertices.
+abbrev pub gridTriangles : Split → Chain → ℕ → Chain → ℕ → ℕ → List Triangle
+gridTriangles split along m round n base =
+    let w = pointsOf round n in
+    blocks m (λ g. rowTriangles split round n (base + g * w) (base + afterOf along m g * w))
+
+-- What a row's writer asks: its vertices are numbered below 2 ^ 29, and its place lies within the buffer.
+pub record RowFits (round : Chain) (n low high at room : ℕ) : Type 0 where
+  pub low-numbers : low + pointsOf round n ≤ 2 ^ 29
+  pub high-numbers : high + pointsOf round n ≤ 2 ^ 29
+  pub within : at + n * 6 ≤ room

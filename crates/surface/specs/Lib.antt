@@ -1,0 +1,5 @@
+pub mod Triangles
+pub mod Quads
+pub mod Grid
+pub mod Caps
+pub mod Whole

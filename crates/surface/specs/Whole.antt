@@ -1,0 +1,53 @@
+-- A whole surface: a grid of quads, alone or between two caps. Definitions only.
+use mathlib.Core.Bool.{Bool, true, false, cond, _&&_}
+use mathlib.Core.List.{List, _++_}
+use Prim.Native.Nat.{ℕ, _+_, _*_, _^_, _≤_}
+use lib.Dec.{leb}
+use Rattle.list_laws.specs.Overwrite.{overwrite}
+use Rattle.surface.specs.Triangles.{Triangle}
+use Rattle.surface.specs.Grid.{pointsOf, gridTriangles}
+use Rattle.surface.specs.Caps.{capTriangles}
+use Rattle.surface.specs.declared.caps.End.the-variants.{Bottom, Top}
+use Rattle.surface.specs.declared.whole.Surface.{Surface}
+
+-- how many rings there are, how many vertices on each, and on all
+abbrev pub ringCount : Surface → ℕ
+ringCount s = pointsOf (s .along) (s .rows)
+
+abbrev pub ringSize : Surface → ℕ
+ringSize s = pointsOf (s .round) (s .columns)
+
+abbrev pub gridSize : Surface → ℕ
+gridSize s = ringCount s * ringSize s
+
+abbrev pub surfaceGrid : Surface → ℕ → List Triangle
+surfaceGrid s base = gridTriangles (s .split) (s .along) (s .rows) (s .round) (s .columns) base
+
+-- The triangles of a surface whose first vertex is `first`: with caps the bottom pole comes before the rings and the top pole after them.
+unfoldable pub surfaceTriangles : Surface → ℕ → List Triangle
+surfaceTriangles s first =
+    let side = first + 1 in
+    let n = s .columns in
+    cond (s .capped)
+    (capTriangles Bottom n first side ++ (surfaceGrid s side ++ capTriangles Top n (side + gridSize s) (side + s .rows * ringSize s)))
+    (surfaceGrid s first)
+
+unfoldable pub surfaceVertexCount : Surface → ℕ
+surfaceVertexCount s = gridSize s + cond (s .capped) 2 0
+
+unfoldable pub surfaceTriangleCount : Surface → ℕ
+surfaceTriangleCount s = 2 * (s .rows * s .columns) + cond (s .capped) (2 * s .columns) 0
+
+-- Whether a surface can be written: document 01 has no vertex numbered 2 ^ 28 or above.
+unfoldable pub fits : Surface → ℕ → ℕ → Bool
+fits s first room = leb (first + surfaceVertexCount s) (2 ^ 28) && leb (3 * surfaceTriangleCount s) room
+
+-- `old` with `new` at its front, or as it was.
+abbrev pub placed : Bool → List ℕ → List ℕ → List ℕ
+placed true new old = overwrite 0 new old
+placed false new old = old
+
+-- What the grid's writer asks.
+pub record GridFits (s : Surface) (base at room : ℕ) : Type 0 where
+  pub numbers : base + gridSize s ≤ 2 ^ 28
+  pub within : at + s .rows * s .columns * 6 ≤ room

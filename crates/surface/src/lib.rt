@@ -1,0 +1,12 @@
+// Grids of quads, with or without caps: the triangle lists that every kind of body is made of.
+mod caps;
+mod grid;
+mod quads;
+mod whole;
+
+pub use caps::End;
+pub use caps::cap_triangle;
+pub use grid::Chain;
+pub use quads::Split;
+pub use quads::quad;
+pub use whole::Surface;

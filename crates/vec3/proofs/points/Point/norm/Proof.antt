@@ -1,0 +1,18 @@
+-- `vec3::Point::norm` meets its contract: each call gives what the definition names.
+use borrow.Author.Needs.{needs}
+use Rattle.vec3.specs.Points.{normOf}
+use Rattle.vec3.proofs.points.Point.norm.Statement.{statement}
+use Rattle.vec3.proofs.points.Point.norm.Tie as tie
+
+dot-requires : tie.Need-dot-requires
+dot-requires c κs = search needs
+
+root-requires : tie.Need-root-requires
+root-requires c κs = search needs
+
+returns : tie.Need-returns
+unfolding normOf
+returns c = cc
+
+pub norm-spec : {M : Type 1} → statement M
+norm-spec = tie.close (tie.spec dot-requires root-requires returns)

@@ -1,0 +1,3 @@
+pub mod Points
+pub mod Turns
+pub mod Frames
