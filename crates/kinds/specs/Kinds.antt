@@ -5,8 +5,9 @@ use mathlib.Core.List.{List}
 use Prim.Native.Nat.{ℕ, _+_, _-_, _*_, _^_}
 use lib.Dec.{leb}
 use Rattle.surface.specs.Triangles.{Triangle}
-use Rattle.surface.specs.declared.grid.Chain.the-variants.{Open, Closed}
+use Rattle.surface.specs.declared.grid.Chain.the-variants as Chain
 use Rattle.surface.specs.declared.quads.Split.the-variants as Split
+use Rattle.surface.specs.declared.whole.Along.the-variants as Along
 use Rattle.surface.specs.declared.whole.Surface.{Surface}
 use Rattle.kinds.specs.Limits.{segmentsPermitted, loopPermitted, divisionsPermitted, longitudesPermitted, layersPermitted}
 use Rattle.kinds.specs.Lists.{closedTriangles, torusTriangles, tubeTriangles, ribbonTriangles}
@@ -53,10 +54,10 @@ trianglesOf (ClosedCylinder k) = closedTriangles (k .divisions) (k .layers)
 unfoldable pub writable : Topology → ℕ → ℕ → Bool
 writable t first room = permitted t && (leb (first + vertexCount t) (2 ^ 28) && leb (3 * triangleCount t) room)
 
--- The grid, alone or capped, whose list the body's is.
+-- The grid of quads, alone or capped, whose list the body's is.
 abbrev pub surfaceOf : Topology → Surface
-surfaceOf (Ribbon k) = record { split = Split.Ribbon; along = Open; rows = k .segments; round = Open; columns = 1; capped = false }
-surfaceOf (Tube k) = record { split = Split.Tube; along = Open; rows = k .segments; round = Closed; columns = k .divisions; capped = false }
-surfaceOf (Capsule k) = record { split = Split.Capped; along = Open; rows = layersOf k; round = Closed; columns = k .divisions; capped = true }
-surfaceOf (Torus k) = record { split = Split.Torus; along = Closed; rows = k .vertices; round = Closed; columns = k .divisions; capped = false }
-surfaceOf (ClosedCylinder k) = record { split = Split.Capped; along = Open; rows = k .layers; round = Closed; columns = k .divisions; capped = true }
+surfaceOf (Ribbon k) = record { split = Split.Ribbon; along = Along.Open; rows = k .segments; round = Chain.Open; columns = 1 }
+surfaceOf (Tube k) = record { split = Split.Tube; along = Along.Open; rows = k .segments; round = Chain.Closed; columns = k .divisions }
+surfaceOf (Capsule k) = record { split = Split.Capped; along = Along.Capped; rows = layersOf k; round = Chain.Closed; columns = k .divisions }
+surfaceOf (Torus k) = record { split = Split.Torus; along = Along.Closed; rows = k .vertices; round = Chain.Closed; columns = k .divisions }
+surfaceOf (ClosedCylinder k) = record { split = Split.Capped; along = Along.Capped; rows = k .layers; round = Chain.Closed; columns = k .divisions }

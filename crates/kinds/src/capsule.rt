@@ -4,6 +4,7 @@ ghost use Rattle.kinds.specs.Kinds.{permitted, vertexCount, triangleCoun
 ghost use Rattle.kinds.specs.Limits.{longitudesPermitted};
 ghost use Rattle.kinds.specs.declared.topology.Topology.{Topology};
 use crate::limits;
+use surface::Along;
 use surface::Chain;
 use surface::Split;
 use surface::Surface;
@@ -82,11 +83,10 @@ impl Capsule {
         let layers = self.layers();
         Surface {
             split: Split::Capped,
-            along: Chain::Open,
+            along: Along::Capped,
             rows: layers as u16,
             round: Chain::Closed,
             columns: self.divisions,
-            capped: true,
         }
     }
 }

@@ -2,6 +2,7 @@ ghost use mathlib.Core.Path.{_≡_};
 ghost use Rattle.kinds.specs.Kinds.{permitted, vertexCount, triangleCount, surfaceOf};
 ghost use Rattle.kinds.specs.declared.topology.Topology.{Topology};
 use crate::limits;
+use surface::Along;
 use surface::Chain;
 use surface::Split;
 use surface::Surface;
@@ -40,11 +41,10 @@ impl Ribbon {
     {
         Surface {
             split: Split::Ribbon,
-            along: Chain::Open,
+            along: Along::Open,
             rows: self.segments,
             round: Chain::Open,
             columns: 1,
-            capped: false,
         }
     }
 }

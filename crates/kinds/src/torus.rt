@@ -2,6 +2,7 @@ ghost use mathlib.Core.Path.{_≡_};
 ghost use Rattle.kinds.specs.Kinds.{permitted, vertexCount, triangleCount, surfaceOf};
 ghost use Rattle.kinds.specs.declared.topology.Topology.{Topology};
 use crate::limits;
+use surface::Along;
 use surface::Chain;
 use surface::Split;
 use surface::Surface;
@@ -46,11 +47,10 @@ impl Torus {
     {
         Surface {
             split: Split::Torus,
-            along: Chain::Closed,
+            along: Along::Closed,
             rows: self.vertices,
             round: Chain::Closed,
             columns: self.divisions,
-            capped: false,
         }
     }
 }

@@ -2,6 +2,7 @@ ghost use mathlib.Core.Path.{_≡_};
 ghost use Rattle.kinds.specs.Kinds.{permitted, vertexCount, triangleCount, surfaceOf};
 ghost use Rattle.kinds.specs.declared.topology.Topology.{Topology};
 use crate::limits;
+use surface::Along;
 use surface::Chain;
 use surface::Split;
 use surface::Surface;
@@ -46,11 +47,10 @@ impl Tube {
     {
         Surface {
             split: Split::Tube,
-            along: Chain::Open,
+            along: Along::Open,
             rows: self.segments,
             round: Chain::Closed,
             columns: self.divisions,
-            capped: false,
         }
     }
 }

@@ -1,7 +1,7 @@
 -- The few facts on products that a loop over rows asks for; omega does the rest. Assumes nothing.
 use mathlib.Core.Path.{_≡_, ap, _∙_, subst}
 use Prim.Native.Nat.{ℕ, _+_, _*_, _≤_, _<_}
-use native.Mathlib.Nat.{suc-mul, mul-le-mul-right, mul-le-mul}
+use native.Mathlib.Nat.{suc-mul, mul-le-mul-right}
 use native.Mathlib.Numerals.{add-one}
 
 -- row g + 1 of rows of n begins n past row g

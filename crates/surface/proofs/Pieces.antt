@@ -9,7 +9,7 @@ use Rattle.surface.specs.Triangles.{Triangle, flatten, rows, rowOf, rows
 use Rattle.surface.specs.Quads.{quadOf}
 use Rattle.surface.specs.Grid.{afterOf, pointsOf, rowTriangles, gridTriangles}
 use Rattle.surface.specs.Caps.{capTriangle, capTriangles}
-use Rattle.surface.specs.Whole.{ringSize, gridSize, surfaceGrid, surfaceTriangles}
+use Rattle.surface.specs.Whole.{isCapped, ringSize, gridSize, surfaceGrid, surfaceTriangles}
 use Rattle.surface.specs.declared.quads.Split.{Split}
 use Rattle.surface.specs.declared.quads.Split.the-variants.{Capped, Torus, Tube, Ribbon}
 use Rattle.surface.specs.declared.grid.Chain.{Chain}
@@ -99,11 +99,11 @@ module _ (s : Surface) (first : ℕ) where
   abbrev pub topOf : ℕ → ℕ → List Triangle
   topOf to-pole to-rim = capTriangles Top (s .columns) (first + 1 + to-pole) (first + 1 + to-rim)
 
-  pub capped-parts : s .capped ≡ true
+  pub capped-parts : isCapped (s .along) ≡ true
       → surfaceTriangles s first ≡ bottomOf ++ (surfaceGrid s (first + 1) ++ topOf (gridSize s) (s .rows * ringSize s))
   unfolding surfaceTriangles
   capped-parts capped = rw capped
 
-  pub bare-parts : s .capped ≡ false → surfaceTriangles s first ≡ surfaceGrid s first
+  pub bare-parts : isCapped (s .along) ≡ false → surfaceTriangles s first ≡ surfaceGrid s first
   unfolding surfaceTriangles
   bare-parts bare = rw bare

@@ -17,7 +17,7 @@ capTriangle Top pole here next = triangle pole next here
 abbrev pub capTriangles : End → ℕ → ℕ → ℕ → List Triangle
 capTriangles end n pole rim = blocks n (λ i. capTriangle end pole (rim + i) (rim + afterOf Closed n i) ∷ [])
 
--- What a cap's writer asks: its vertices are numbered below 2 ^ 29, and its place lies within the buffer.
+-- What a cap's writer asks: its vertices are numbered below 2 ^ 28, and its place lies within the buffer.
 pub record CapFits (n rim at room : ℕ) : Type 0 where
-  pub rim-numbers : rim + n ≤ 2 ^ 29
+  pub rim-numbers : rim + n ≤ 2 ^ 28
   pub within : at + n * 3 ≤ room

@@ -29,8 +29,8 @@ gridTriangles split along m round n base =
     let w = pointsOf round n in
     blocks m (λ g. rowTriangles split round n (base + g * w) (base + afterOf along m g * w))
 
--- What a row's writer asks: its vertices are numbered below 2 ^ 29, and its place lies within the buffer.
+-- What a row's writer asks: its vertices are numbered below 2 ^ 28, and its place lies within the buffer.
 pub record RowFits (round : Chain) (n low high at room : ℕ) : Type 0 where
-  pub low-numbers : low + pointsOf round n ≤ 2 ^ 29
-  pub high-numbers : high + pointsOf round n ≤ 2 ^ 29
+  pub low-numbers : low + pointsOf round n ≤ 2 ^ 28
+  pub high-numbers : high + pointsOf round n ≤ 2 ^ 28
   pub within : at + n * 6 ≤ room

@@ -8,11 +8,26 @@ use Rattle.surface.specs.Triangles.{Triangle}
 use Rattle.surface.specs.Grid.{pointsOf, gridTriangles}
 use Rattle.surface.specs.Caps.{capTriangles}
 use Rattle.surface.specs.declared.caps.End.the-variants.{Bottom, Top}
+use Rattle.surface.specs.declared.grid.Chain.{Chain}
+use Rattle.surface.specs.declared.grid.Chain.the-variants as chain
+use Rattle.surface.specs.declared.whole.Along.{Along}
+use Rattle.surface.specs.declared.whole.Along.the-variants.{Open, Closed, Capped}
 use Rattle.surface.specs.declared.whole.Surface.{Surface}
+
+-- the chain of a surface's rings, and whether it has caps
+abbrev pub chainOf : Along → Chain
+chainOf Open = chain.Open
+chainOf Closed = chain.Closed
+chainOf Capped = chain.Open
+
+abbrev pub isCapped : Along → Bool
+isCapped Open = false
+isCapped Closed = false
+isCapped Capped = true
 
 -- how many rings there are, how many vertices on each, and on all
 abbrev pub ringCount : Surface → ℕ
-ringCount s = pointsOf (s .along) (s .rows)
+ringCount s = pointsOf (chainOf (s .along)) (s .rows)
 
 abbrev pub ringSize : Surface → ℕ
 ringSize s = pointsOf (s .round) (s .columns)
@@ -21,24 +36,24 @@ abbrev pub gridSize : Surface → ℕ
 gridSize s = ringCount s * ringSize s
 
 abbrev pub surfaceGrid : Surface → ℕ → List Triangle
-surfaceGrid s base = gridTriangles (s .split) (s .along) (s .rows) (s .round) (s .columns) base
+surfaceGrid s base = gridTriangles (s .split) (chainOf (s .along)) (s .rows) (s .round) (s .columns) base
 
 -- The triangles of a surface whose first vertex is `first`: with caps the bottom pole comes before the rings and the top pole after them.
 unfoldable pub surfaceTriangles : Surface → ℕ → List Triangle
 surfaceTriangles s first =
     let side = first + 1 in
     let n = s .columns in
-    cond (s .capped)
+    cond (isCapped (s .along))
     (capTriangles Bottom n first side ++ (surfaceGrid s side ++ capTriangles Top n (side + gridSize s) (side + s .rows * ringSize s)))
     (surfaceGrid s first)
 
 unfoldable pub surfaceVertexCount : Surface → ℕ
-surfaceVertexCount s = gridSize s + cond (s .capped) 2 0
+surfaceVertexCount s = gridSize s + cond (isCapped (s .along)) 2 0
 
 unfoldable pub surfaceTriangleCount : Surface → ℕ
-surfaceTriangleCount s = 2 * (s .rows * s .columns) + cond (s .capped) (2 * s .columns) 0
+surfaceTriangleCount s = 2 * (s .rows * s .columns) + cond (isCapped (s .along)) (2 * s .columns) 0
 
--- Whether a surface can be written: document 01 has no vertex numbered 2 ^ 28 or above.
+-- Whether a surface can be written: each of its vertices is numbered below 2 ^ 28, as document 01 asks, and its triangles have room.
 unfoldable pub fits : Surface → ℕ → ℕ → Bool
 fits s first room = leb (first + surfaceVertexCount s) (2 ^ 28) && leb (3 * surfaceTriangleCount s) room
 

@@ -46,11 +46,8 @@ fn write_row(out: &mut [u32], at: usize, split: Split, round: Chain, n: u32, low
     let mut i: u32 = 0;
     while i < n {
         let j = after(round, n, i);
-        put_quad(
-            out,
-            place,
-            quad(split, low + i, low + j, high + i, high + j),
-        );
+        let q = quad(split, low + i, low + j, high + i, high + j);
+        put_quad(out, place, q);
         place += 6;
         i += 1;
     }
@@ -62,7 +59,8 @@ pub(crate) fn write_grid(out: &mut [u32], at: usize, s: Surface, base: u32)
     ensures { λ _. ⌜ now (out .exit) ≡ overwrite at (flatten (surfaceGrid s base)) (now (out .entry)) ⌝ }
 {
     let split = s.split;
-    let along = s.along;
+    let ends = s.along;
+    let along = ends.chain();
     let round = s.round;
     let rows = s.rows as u32;
     let columns = s.columns as u32;

@@ -9,4 +9,5 @@ pub use caps::cap_triangle;
 pub use grid::Chain;
 pub use quads::Split;
 pub use quads::quad;
+pub use whole::Along;
 pub use whole::Surface;

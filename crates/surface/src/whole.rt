@@ -3,7 +3,7 @@ ghost use mathlib.Core.Bool.{true};
 ghost use lib.ListN.{length};
 ghost use Rattle.list_laws.specs.Overwrite.{overwrite};
 ghost use Rattle.surface.specs.Triangles.{flatten};
-ghost use Rattle.surface.specs.Whole.{ringCount, ringSize, surfaceVertexCount, surfaceTriangleCount, surfaceTriangles, fits, placed};
+ghost use Rattle.surface.specs.Whole.{chainOf, isCapped, ringCount, ringSize, surfaceVertexCount, surfaceTriangleCount, surfaceTriangles, fits, placed};
 use crate::caps::End;
 use crate::caps::write_cap;
 use crate::grid::Chain;
@@ -11,14 +11,43 @@ use crate::grid::points;
 use crate::grid::write_grid;
 use crate::quads::Split;
 
+// How a grid of quads ends along the curve: in two open rims, in itself, or in two caps.
+pub enum Along {
+    Open,
+    Closed,
+    Capped,
+}
+
+impl Along {
+    // The chain of the rings.
+    pub(crate) fn chain(self) -> Chain
+        ensures { λ r. ⌜ r ≡ chainOf self ⌝ }
+    {
+        match self {
+            Along::Open => Chain::Open,
+            Along::Closed => Chain::Closed,
+            Along::Capped => Chain::Open,
+        }
+    }
+
+    fn is_capped(self) -> bool
+        ensures { λ r. ⌜ r ≡ isCapped self ⌝ }
+    {
+        match self {
+            Along::Open => false,
+            Along::Closed => false,
+            Along::Capped => true,
+        }
+    }
+}
+
 // A grid of `rows` by `columns` quads, between two caps where it is capped.
 pub struct Surface {
     pub split: Split,
-    pub along: Chain,
+    pub along: Along,
     pub rows: u16,
     pub round: Chain,
     pub columns: u16,
-    pub capped: bool,
 }
 
 impl Surface {
@@ -27,7 +56,7 @@ impl Surface {
         ensures { λ r. ⌜ r ≡ ringCount self ⌝ }
     {
         let along = self.along;
-        points(along, self.rows)
+        points(along.chain(), self.rows)
     }
 
     // How many vertices a ring has.
@@ -42,7 +71,8 @@ impl Surface {
         ensures { λ r. ⌜ r ≡ surfaceVertexCount self ⌝ }
     {
         let grid = self.ring_count() as u64 * self.ring_size() as u64;
-        if self.capped {
+        let along = self.along;
+        if along.is_capped() {
             return grid + 2;
         }
         grid
@@ -53,7 +83,8 @@ impl Surface {
     {
         let columns = self.columns as u64;
         let grid = 2 * (self.rows as u64 * columns);
-        if self.capped {
+        let along = self.along;
+        if along.is_capped() {
             return grid + 2 * columns;
         }
         grid
@@ -68,7 +99,7 @@ impl Surface {
     }
 
     fn write_capped(self, first: u32, out: &mut [u32])
-        requires { ⌜ (self .capped ≡ true) × (fits self first (length (now out)) ≡ true) ⌝ }
+        requires { ⌜ (isCapped (self .along) ≡ true) × (fits self first (length (now out)) ≡ true) ⌝ }
         ensures { λ _. ⌜ now (out .exit) ≡ overwrite 0 (flatten (surfaceTriangles self first)) (now (out .entry)) ⌝ }
     {
         let rows = self.rows as u32;
@@ -92,7 +123,8 @@ impl Surface {
         if !self.is_placeable(first, out.len()) {
             return false;
         }
-        if self.capped {
+        let along = self.along;
+        if along.is_capped() {
             self.write_capped(first, out);
         } else {
             write_grid(out, 0, self, first);

@@ -10,8 +10,8 @@ use Rattle.list_laws.specs.Overwrite.{overwrite, overwrite-none}
 use Rattle.list_laws.specs.Blocks.{blocks, one-more}
 use Rattle.list_laws.specs.Products.{next-row, row-within}
 use Rattle.surface.specs.Triangles.{flatten}
-use Rattle.surface.specs.Grid.{afterOf, pointsOf, rowTriangles}
-use Rattle.surface.specs.Whole.{ringCount, ringSize}
+use Rattle.surface.specs.Grid.{afterOf, pointsOf, rowTriangles, gridTriangles}
+use Rattle.surface.specs.Whole.{ringSize}
 use Rattle.surface.proofs.Chains.{after-lt, points-bounds}
 use Rattle.surface.proofs.Flatten.{numbers, blocks-written}
 use Rattle.surface.proofs.Pieces.{rowAt, length-rowAt}
@@ -30,28 +30,36 @@ abbrev μ-loop : tie.MeasureT-loop
 μ-loop out₀ at base split along round rows columns ring place₀ low₀ g₀ out place low g = rows - g
 
 -- the row of a turn: its two rings and its place are within bounds
-facts : (c : tie.In-loop Inv-loop μ-loop) → let a = c .before .before .before .before .before .before .args in
+facts : (c : tie.In-loop Inv-loop μ-loop) → let k = c .before .before .before .before .before .chain in
+    let a = c .before .before .before .before .before .before .before .args in
     let l = c .before .loop in
     (l .low + ringSize (a .s) ≤ 2 ^ 28)
-    × (a .base + afterOf (a .s .along) (a .s .rows) (l .g) * ringSize (a .s) + ringSize (a .s) ≤ 2 ^ 28)
+    × (a .base + afterOf (k .result) (a .s .rows) (l .g) * ringSize (a .s) + ringSize (a .s) ≤ 2 ^ 28)
     × (l .place + a .s .columns * 6 ≤ length (now (a .out)))
 facts c =
-    let a = c .before .before .before .before .before .before .args in
+    let k = c .before .before .before .before .before .chain in
+    let a = c .before .before .before .before .before .before .before .args in
     let s = a .s in
     let g = c .before .loop .g in
-    let along = points-bounds (s .along) (s .rows) in
+    let rings = pointsOf (k .result) (s .rows) in
+    let along = points-bounds (k .result) (s .rows) in
     omega (
       arith,
-      row-within g (ringCount s) (ringSize s) (omega arith),
-      row-within (afterOf (s .along) (s .rows) g) (ringCount s) (ringSize s) (after-lt (s .along) (s .rows) g (c .loop-test .taken)),
+      row-within g rings (ringSize s) (omega arith),
+      row-within (afterOf (k .result) (s .rows) g) rings (ringSize s) (after-lt (k .result) (s .rows) g (c .loop-test .taken)),
+      ap (λ h. pointsOf h (s .rows) * ringSize s) (k .ensures),
       row-within g (s .rows) (s .columns) (c .loop-test .taken),
-      c .before .before .before .before .before .before .pre,
+      c .before .before .before .before .before .before .before .pre,
     )
 
 -- how far the ring after row g lies behind the first
-rise : (c : tie.After-after Inv-loop μ-loop) → let s = c .before .before .before .before .before .before .before .args .s in
-    c .after .result * c .before .before .before .ring-size .result ≡ afterOf (s .along) (s .rows) (c .before .before .loop .g) * ringSize s
+rise : (c : tie.After-after Inv-loop μ-loop) → let k = c .before .before .before .before .before .before .chain in
+    let s = c .before .before .before .before .before .before .before .before .args .s in
+    c .after .result * c .before .before .before .ring-size .result ≡ afterOf (k .result) (s .rows) (c .before .before .loop .g) * ringSize s
 rise c = λ i. c .after .ensures i * c .before .before .before .ring-size .ensures i
+
+chain-requires : tie.Need-chain-requires Inv-loop μ-loop
+chain-requires c κs = search needs
 
 cast-rows : tie.Need-cast-rows Inv-loop μ-loop
 cast-rows c = search needs
@@ -100,12 +108,13 @@ loop-less c = omega arith
 
 loop-again : tie.Need-loop-again Inv-loop μ-loop
 loop-again c = let l = c .before .before .before .before .before .before .loop in
-    let a = c .before .before .before .before .before .before .before .before .before .before .before .args in
+    let along = c .before .before .before .before .before .before .before .before .before .before .chain .result in
+    let a = c .before .before .before .before .before .before .before .before .before .before .before .before .args in
     let s = a .s in
     let r = rise (c .before .before .before .before) in
     let w = c .before .before .before .before .before .before .before .ring-size in (
-      one-more (a .at) (l .g) (s .columns * 6) (numbers (rowAt (s .split) (s .round) (s .columns) (s .along) (s .rows) (a .base))) (now (a .out))
-          (λ k h. length-rowAt (s .split) (s .round) (s .columns) (s .along) (s .rows) (a .base) k) (l .inv .0)
+      one-more (a .at) (l .g) (s .columns * 6) (numbers (rowAt (s .split) (s .round) (s .columns) along (s .rows) (a .base))) (now (a .out))
+          (λ k h. length-rowAt (s .split) (s .round) (s .columns) along (s .rows) (a .base) k) (l .inv .0)
           (l .inv .1 ∙ ap (λ k. a .at + k) (mul-assoc (l .g) (s .columns) 6)) (c .before .before .write-row .ensures)
           (λ i. flatten (rowTriangles (s .split) (s .round) (s .columns) (l .inv .2 i) (a .base + r i))),
       omega (arith, next-row (l .g) (s .columns)),
@@ -119,11 +128,14 @@ same-length c = c .before .loop .inv .4
 
 returns : tie.Need-returns Inv-loop μ-loop
 returns c = let o = c .before .loop in
-    let a = c .before .before .before .before .before .before .args in
+    let k = c .before .before .before .before .before .chain in
+    let a = c .before .before .before .before .before .before .before .args in
     let s = a .s in
-    let f = rowAt (s .split) (s .round) (s .columns) (s .along) (s .rows) (a .base) in
+    let t₀ = now (a .out) in
+    let f = rowAt (s .split) (s .round) (s .columns) (k .result) (s .rows) (a .base) in
     let e : o .g ≡ s .rows = omega arith in
-    blocks-written (a .at) f (now (a .out)) (o .inv .0) e
+    blocks-written (a .at) f t₀ (o .inv .0) e
+    ∙ ap (λ h. overwrite (a .at) (flatten (gridTriangles (s .split) h (s .rows) (s .round) (s .columns) (a .base))) t₀) (k .ensures)
 
 pub write-grid-spec : {M : Type 1} → statement M
 write-grid-spec =
@@ -131,6 +143,7 @@ write-grid-spec =
     (tie.spec
     Inv-loop
     μ-loop
+    chain-requires
     cast-rows
     cast-columns
     ring-size-requires

@@ -1,5 +1,5 @@
 -- Each turn of the loop writes one quad behind the last. Assumes nothing.
-use mathlib.Core.Path.{_≡_, refl, sym, ap, _∙_}
+use mathlib.Core.Path.{_≡_, refl, sym, _∙_}
 use Prim.Native.Nat.{_+_, _*_, _-_, _≤_, _<_}
 use native.Mathlib.Omega.{arith}
 use borrow.Author.Needs.{needs}
@@ -33,16 +33,16 @@ after-requires : tie.Need-after-requires Inv-loop μ-loop
 after-requires c κs = omega arith
 
 add-quad : tie.Need-add-quad Inv-loop μ-loop
-add-quad c = let a = c .before .before .before .before .before .args in omega (arith, points-bounds (a .round) (a .n))
+add-quad c = let a = c .before .before .before .before .args in omega (arith, points-bounds (a .round) (a .n))
 
 add-quad-2 : tie.Need-add-quad-2 Inv-loop μ-loop
-add-quad-2 c = omega (arith, next-lt (c .before))
+add-quad-2 c = omega (arith, next-lt c)
 
 add-quad-3 : tie.Need-add-quad-3 Inv-loop μ-loop
-add-quad-3 c = let a = c .before .before .before .before .before .args in omega (arith, points-bounds (a .round) (a .n))
+add-quad-3 c = let a = c .before .before .before .before .args in omega (arith, points-bounds (a .round) (a .n))
 
 add-quad-4 : tie.Need-add-quad-4 Inv-loop μ-loop
-add-quad-4 c = omega (arith, next-lt (c .before))
+add-quad-4 c = omega (arith, next-lt c)
 
 quad-requires : tie.Need-quad-requires Inv-loop μ-loop
 quad-requires c κs = search needs
@@ -64,7 +64,7 @@ loop-again c = let l = c .before .before .before .before .before .before .before
     let a = c .before .before .before .before .before .before .before .before .before .args in (
       one-more (a .at) (l .i) 6 (numbers (quadAt (a .split) (a .round) (a .n) (a .low) (a .high))) (now (a .out))
           (λ k h. length-quadAt (a .split) (a .round) (a .n) (a .low) (a .high) k) (l .inv .0) (l .inv .1) (c .before .before .put-quad .ensures)
-          (quad-written (a .split) (a .round) (a .n) (a .low) (a .high) (l .i) (c .before .before .before .quad .ensures)
+          (quad-written (a .split) (a .round) (a .n) (a .low) (a .high) (l .i) (c .before .before .before .before .quad .ensures)
           (c .before .before .before .before .before .after .ensures)),
       omega arith,
       omega arith,

@@ -1,5 +1,5 @@
 -- The product of the two counts, and two poles where there are caps. Assumes nothing.
-use mathlib.Core.Path.{_≡_, ap}
+use mathlib.Core.Path.{_≡_, sym, ap, _∙_}
 use Prim.Native.Nat.{ℕ, _+_, _*_}
 use native.Mathlib.Omega.{arith}
 use borrow.Author.Needs.{needs}
@@ -26,16 +26,19 @@ cast-grid-2 c = search needs
 mul-grid : tie.Need-mul-grid
 mul-grid c = omega (arith, grid-is c, few-points (c .before .before .args .self) (omega arith) (omega arith))
 
+is-capped-requires : tie.Need-is-capped-requires
+is-capped-requires c κs = search needs
+
 add-result : tie.Need-add-result
-add-result c = omega (arith, grid-is (c .before), few-points (c .before .before .before .args .self) (omega arith) (omega arith))
+add-result c = omega (arith, grid-is (c .before .before), few-points (c .before .before .before .before .args .self) (omega arith) (omega arith))
 
 returns : tie.Need-returns
 unfolding surfaceVertexCount
-returns c = rw (c .if1 .taken) (ap (λ (k : ℕ). k + 2) (grid-is (c .before)))
+returns c = rw (sym (c .before .is-capped .ensures) ∙ c .if1 .taken) (ap (λ (k : ℕ). k + 2) (grid-is (c .before .before)))
 
 returns-2 : tie.Need-returns-2
 unfolding surfaceVertexCount
-returns-2 c = rw (c .if1 .left) (omega (arith, grid-is (c .before)))
+returns-2 c = rw (sym (c .before .is-capped .ensures) ∙ c .if1 .left) (omega (arith, grid-is (c .before .before)))
 
 pub vertex-count-spec : {M : Type 1} → statement M
 vertex-count-spec =
@@ -46,6 +49,7 @@ vertex-count-spec =
     ring-size-requires
     cast-grid-2
     mul-grid
+    is-capped-requires
     add-result
     returns
     returns-2)

@@ -8,7 +8,7 @@ use denote.Ref.{now}
 use lib.ListN.{length}
 use Rattle.list_laws.specs.Overwrite.{overwrite}
 use Rattle.surface.specs.Triangles.{flatten}
-use Rattle.surface.specs.Whole.{ringSize, gridSize, surfaceGrid}
+use Rattle.surface.specs.Whole.{chainOf, ringSize, gridSize, surfaceGrid}
 use Rattle.surface.specs.declared.caps.End.the-variants.{Bottom}
 use Rattle.surface.proofs.Flatten.{three-written}
 use Rattle.surface.proofs.Pieces.{length-cap, length-grid, bottomOf, topOf, capped-parts}
@@ -28,7 +28,7 @@ room : (c : tie.After-ring-count) → let a = c .before .before .before .before 
     let s = a .self in
     let r = c .before .ring-size .result in
     (a .first + 1 + c .ring-count .result * r ≤ 2 ^ 28)
-    × (a .first + 1 + s .rows * r ≤ 2 ^ 28)
+    × (a .first + 1 + s .rows * r + s .columns ≤ 2 ^ 28)
     × (s .columns * 3 + s .rows * s .columns * 6 + s .columns * 3 ≤ length (now (a .out)))
 room c = let a = c .before .before .before .before .before .args in
     let p = c .before .before .before .before .before .pre in
@@ -115,7 +115,7 @@ returns c = let m = c .before .before .before .before .before .before .before .b
     (c .before .before .before .before .before .before .write-grid .ensures)
     (c .before .before .write-cap2 .ensures)
     (sym (length-cap Bottom (s .columns) (a .first) (a .first + 1)))
-    (omega (arith, length-grid (s .split) (s .round) (s .columns) (s .along) (s .rows) (a .first + 1)))
+    (omega (arith, length-grid (s .split) (s .round) (s .columns) (chainOf (s .along)) (s .rows) (a .first + 1)))
     ∙ (λ i. overwrite 0 (flatten (bottom ++ (grid ++ topOf s (a .first) (pole i) (rim i)))) t₀)
     ∙ ap (λ l. overwrite 0 (flatten l) t₀) (sym (capped-parts s (a .first) (m .before .before .before .before .before .pre .0)))
 
