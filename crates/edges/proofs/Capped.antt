@@ -1,25 +1,25 @@
 -- A grid of rings between two caps: what is claimed of its list. Assumes nothing.
 use mathlib.Core.Path.{_≡_, refl, sym, ap, _∙_, subst}
 use mathlib.Core.Logic.{_⊎_, inl, inr, _≢_}
-use mathlib.Core.Bool.{Bool, true, false}
-use mathlib.Core.List.{List, [], _∷_, _++_}
-use Prim.Native.Nat.{ℕ, zero, suc, _+_, _-_, _*_, _≤_, _<_}
+use mathlib.Core.List.{List, _++_}
+use Prim.Native.Nat.{ℕ, _+_, _-_, _*_, _≤_, _<_}
 use native.Mathlib.Nat.{eq-zero-or-pos, mul-le-mul-right}
 use native.Mathlib.Omega.{arith}
-use Rattle.list_laws.specs.Blocks.{blocks}
 use Rattle.surface.specs.Triangles.{Triangle}
 use Rattle.surface.specs.Grid.{afterOf, gridTriangles}
-use Rattle.surface.specs.Caps.{capTriangle, capTriangles}
+use Rattle.surface.specs.Caps.{capTriangles}
 use Rattle.surface.specs.declared.grid.Chain.the-variants.{Open, Closed}
 use Rattle.surface.specs.declared.caps.End.{End}
 use Rattle.surface.specs.declared.caps.End.the-variants.{Bottom, Top}
 use Rattle.surface.specs.declared.quads.Split.the-variants.{Capped}
+use Rattle.surface.proofs.Chains.{after-lt}
 use Rattle.edges.specs.Edges.{Edge, _⟶_, reverse, edges, same, total, count, isZero, NoneTwice, AllMatched, Between, Within}
+use Rattle.edges.proofs.Zero.{isZero-yes}
 use Rattle.edges.proofs.Totals.{total-edges, within-append, within-blocks, within-widen}
-use Rattle.edges.proofs.Chains.{chain-turn, after-lt, before, isZero-yes, corner, corner-lt}
+use Rattle.edges.proofs.Chains.{chain-turn, before, corner, corner-lt}
 use Rattle.edges.proofs.Corners.{below6, patternOf}
 use Rattle.edges.proofs.Places.{places, Placed, places-pos, places-find, places-once}
-use Rattle.edges.proofs.Grid.{vertex, vertex-inj, place, outer, grid-apart, grid-mate, grid-lone}
+use Rattle.edges.proofs.Grid.{place, outer, grid-apart, grid-mate, grid-lone}
 use Rattle.edges.proofs.GridList.{grid-total, grid-within, in-grid}
 use Rattle.edges.proofs.Fan.{below3, fan, fan-total, Round, fan-apart, fan-spoke, fan-spoke-back}
 

@@ -2,14 +2,16 @@
 use mathlib.Core.Path.{_≡_, refl, ap, _∙_}
 use mathlib.Core.Logic.{_⊎_, inl, inr, _≢_}
 use mathlib.Core.Bool.{Bool, true, false, not}
-use Prim.Native.Nat.{ℕ, zero, suc, _+_, _-_, _*_, _%_, _≤_, _<_}
-use native.Mathlib.Nat.{eq-or-lt-of-le, eq-zero-or-pos, mod-lt, mod-eq-of-lt, mod-self}
+use Prim.Native.Nat.{ℕ, zero, suc, _+_, _-_, _%_, _≤_, _<_}
+use native.Mathlib.Nat.{eq-or-lt-of-le, mod-lt, mod-eq-of-lt, mod-self}
 use native.Mathlib.Decide.{decLt}
 use native.Mathlib.Omega.{arith}
 use Rattle.surface.specs.Grid.{afterOf, pointsOf}
 use Rattle.surface.specs.declared.grid.Chain.{Chain}
 use Rattle.surface.specs.declared.grid.Chain.the-variants.{Open, Closed}
+use Rattle.surface.proofs.Chains.{after-lt}
 use Rattle.edges.specs.Edges.{isZero, leastSteps, ends}
+use Rattle.edges.proofs.Zero.{isZero-le, isZero-no, isZero-yes, isZero-pos, isZero-zero}
 use Rattle.edges.proofs.Sum.{sum, sum-zero, sum-at}
 
 -- ---- the point after another
@@ -27,10 +29,6 @@ next-cases n i h = pick (eq-or-lt-of-le h)
 
 next-lt : (n i : ℕ) → 0 < n → (i + 1) % n < n
 next-lt n i h = mod-lt (i + 1) h
-
-pub after-lt : (chain : Chain) (n i : ℕ) → i < n → afterOf chain n i < pointsOf chain n
-after-lt Open n i h = omega arith
-after-lt Closed n i h = next-lt n i (omega arith)
 
 -- What is asked of a successor, on the numbers below n, so that an edge's steps tell where it stands.
 pub record Turn (next : ℕ → ℕ) (n : ℕ) : Type 0 where
@@ -124,10 +122,6 @@ outside chain n false true i = 0
 outside chain n true false i = 0
 outside chain n true true i = atEnd chain n i
 
-isZero-le : (k : ℕ) → isZero k ≤ 1
-isZero-le zero = omega arith
-isZero-le (suc k) = omega arith
-
 pub outside-le : (chain : Chain) (n : ℕ) (x y : Bool) (i : ℕ) → outside chain n x y i ≤ 1
 outside-le Open n false false i = isZero-le i
 outside-le Closed n false false i = omega arith
@@ -135,14 +129,6 @@ outside-le chain n false true i = omega arith
 outside-le chain n true false i = omega arith
 outside-le Open n true true i = isZero-le (n - (i + 1))
 outside-le Closed n true true i = omega arith
-
-pub isZero-no : (k : ℕ) → isZero k ≡ 0 → 0 < k
-isZero-no zero h = absurd (omega arith)
-isZero-no (suc k) h = omega arith
-
-pub isZero-yes : (k : ℕ) → 1 ≤ isZero k → k ≡ 0
-isZero-yes zero h = refl
-isZero-yes (suc k) h = absurd (omega arith)
 
 abbrev Neighbour : Chain → ℕ → Bool → Bool → ℕ → Type 0
 Neighbour chain n x y i = (j : ℕ) × (j < n) × Across chain n x y i j
@@ -168,14 +154,6 @@ no-neighbour Open n true true i j h o p = let z = isZero-yes (n - (i + 1)) o in 
 no-neighbour Closed n true true i j h o p = omega arith
 
 -- ---- how many ends there are
-
-isZero-pos : (k : ℕ) → 0 < k → isZero k ≡ 0
-isZero-pos zero h = omega arith
-isZero-pos (suc k) h = refl
-
-isZero-zero : (k : ℕ) → k ≡ 0 → isZero k ≡ 1
-isZero-zero zero h = refl
-isZero-zero (suc k) h = absurd (omega arith)
 
 pub sum-ends : (chain : Chain) (n : ℕ) → leastSteps chain ≤ n → sum n (λ i. atStart chain i) + sum n (λ i. atEnd chain n i) ≡ ends chain
 sum-ends Open n h =

@@ -1,13 +1,13 @@
 -- n triangles round a pole: (p, x i, y i) for each i below n, as places of one row. Assumes nothing.
 use mathlib.Core.Path.{_≡_, refl, _∙_}
 use mathlib.Core.Logic.{_≢_}
-use mathlib.Core.List.{List, [], _∷_}
-use Prim.Native.Nat.{ℕ, zero, suc, _+_, _<_}
+use mathlib.Core.List.{[], _∷_}
+use Prim.Native.Nat.{ℕ, zero, suc, _<_}
 use native.Mathlib.Omega.{arith}
 use lib.ListN.{getD}
 use Rattle.list_laws.specs.Blocks.{blocks}
 use Rattle.surface.specs.Triangles.{triangle}
-use Rattle.edges.specs.Edges.{Edge, _⟶_, reverse, edges, total}
+use Rattle.edges.specs.Edges.{Edge, _⟶_, edges, total}
 use Rattle.edges.proofs.Sum.{sum, sum-cong}
 use Rattle.edges.proofs.Totals.{total-blocks}
 use Rattle.edges.proofs.Places.{places, Placed, Apart}

@@ -1,24 +1,19 @@
 -- The edges of a grid of quads, whichever way it wraps: none comes twice, and those whose quad has no neighbour lack their reverse.
 -- Assumes nothing.
 use mathlib.Core.Path.{_≡_, refl, sym, ap, _∙_, subst₂}
-use mathlib.Core.Logic.{_⊎_, inl, inr, _≢_}
+use mathlib.Core.Logic.{_⊎_, inl, inr}
 use mathlib.Core.Bool.{Bool, true, false, not}
-use mathlib.Core.List.{List}
 use Prim.Native.Nat.{ℕ, _+_, _*_, _/_, _%_, _≤_, _<_}
 use native.Mathlib.Nat.{eq-zero-or-pos}
 use native.Mathlib.Omega.{arith}
 use lib.Arith.{digits-div, digits-mod}
-use Rattle.surface.specs.Grid.{afterOf, pointsOf, gridTriangles}
-use Rattle.surface.specs.Quads.{quadOf}
+use Rattle.surface.specs.Grid.{afterOf, pointsOf}
 use Rattle.surface.specs.declared.grid.Chain.{Chain}
-use Rattle.surface.specs.declared.quads.Split.{Split}
-use Rattle.surface.specs.declared.quads.Split.the-variants.{Capped, Torus, Tube, Ribbon}
-use Rattle.edges.specs.Edges.{Edge, _⟶_, reverse, edges, same, total, leastSteps, ends}
+use Rattle.edges.specs.Edges.{Edge, _⟶_, reverse, leastSteps, ends}
 use Rattle.edges.proofs.Sum.{sum, sum-cong, sum-add, sum-const, sum-mul}
-use Rattle.edges.proofs.Totals.{total-blocks}
-use Rattle.edges.proofs.Chains.{Turn, chain-turn, corner, corner-lt, corner-inj, Across, across-tail, across-head, outside, outside-le, neighbour, no-neighbour, atStart, atEnd, sum-ends}
-use Rattle.edges.proofs.Corners.{Corner, opposite, Step, none, onward, back, step, Pattern, patternOf}
-use Rattle.edges.proofs.Places.{places, Placed, Apart}
+use Rattle.edges.proofs.Chains.{Turn, chain-turn, corner, corner-lt, corner-inj, across-tail, across-head, outside, outside-le, neighbour, no-neighbour, atStart, atEnd, sum-ends}
+use Rattle.edges.proofs.Corners.{Corner, opposite, Step, none, onward, back, step, Pattern}
+use Rattle.edges.proofs.Places.{Placed, Apart}
 
 -- ---- the steps of an edge
 

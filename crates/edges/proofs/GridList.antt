@@ -1,5 +1,5 @@
 -- What is claimed of a grid's list of triangles. Assumes nothing.
-use mathlib.Core.Path.{_≡_, refl, sym, ap, _∙_}
+use mathlib.Core.Path.{_≡_, sym, ap, _∙_}
 use mathlib.Core.Logic.{_⊎_, inl, inr}
 use mathlib.Core.Bool.{false}
 use mathlib.Core.List.{List}
@@ -13,12 +13,14 @@ use Rattle.surface.specs.Quads.{quadOf}
 use Rattle.surface.specs.declared.grid.Chain.{Chain}
 use Rattle.surface.specs.declared.quads.Split.{Split}
 use Rattle.surface.specs.declared.quads.Split.the-variants.{Capped, Torus, Tube, Ribbon}
+use Rattle.surface.proofs.Chains.{after-lt}
 use Rattle.edges.specs.Edges.{Edge, reverse, edges, same, total, count, isZero, lacks, unmatched, NoneTwice, Between, Within, leastSteps, ends}
+use Rattle.edges.proofs.Zero.{isZero-pos}
 use Rattle.edges.proofs.Sum.{sum, sum-cong}
-use Rattle.edges.proofs.Totals.{total-blocks, isZero-pos, within-blocks}
-use Rattle.edges.proofs.Chains.{after-lt, corner-lt}
-use Rattle.edges.proofs.Corners.{Pattern, patternOf}
-use Rattle.edges.proofs.Places.{places, Placed, places-pos, places-none, places-once}
+use Rattle.edges.proofs.Totals.{total-blocks, within-blocks}
+use Rattle.edges.proofs.Chains.{corner-lt}
+use Rattle.edges.proofs.Corners.{patternOf}
+use Rattle.edges.proofs.Places.{places, places-pos, places-none, places-once}
 use Rattle.edges.proofs.Grid.{vertex, place, outer, outer-le, grid-apart, grid-mate, grid-lone, sum-outer}
 
 -- a quad's edges are its pattern's, in some order

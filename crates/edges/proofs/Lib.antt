@@ -1,4 +1,5 @@
 pub mod Sum
+pub mod Zero
 pub mod Totals
 pub mod Places
 pub mod Chains

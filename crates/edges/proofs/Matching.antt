@@ -2,13 +2,13 @@
 use mathlib.Core.Path.{_≡_, refl, sym, ap}
 use mathlib.Core.Logic.{_⊎_, inl, inr}
 use mathlib.Core.List.{List, [], _∷_}
-use Prim.Native.Nat.{ℕ, zero, suc, _+_, _≤_, _<_}
+use Prim.Native.Nat.{ℕ, zero, suc, _≤_, _<_}
 use native.Mathlib.Nat.{eq-zero-or-pos, le-of-suc-le-suc}
 use native.Mathlib.Omega.{arith}
 use lib.ListN.{length, getD}
-use Rattle.edges.specs.Edges.{Edge, reverse, same, total, count, isZero, lacks, unmatched, NoneTwice, AllMatched}
-use Rattle.edges.proofs.Totals.{same-of, same-eq, isZero-pos}
-use Rattle.edges.proofs.Chains.{isZero-no}
+use Rattle.edges.specs.Edges.{Edge, reverse, same, total, count, lacks, unmatched, NoneTwice, AllMatched}
+use Rattle.edges.proofs.Zero.{isZero-no, isZero-pos}
+use Rattle.edges.proofs.Totals.{same-of, same-eq}
 
 -- a total that is 0 is 0 at each edge of the list, and the other way round
 zero-at : (f : Edge → ℕ) (es : List Edge) (e : Edge) → total f es ≡ 0 → 1 ≤ count e es → f e ≡ 0

@@ -1,10 +1,8 @@
 -- Totals over places (g, i, s): row, column, place in the cell; and what they tell of a list of edges. Assumes nothing.
-use mathlib.Core.Path.{_≡_, refl, sym, ap, _∙_}
-use mathlib.Core.Logic.{_⊎_, inl, inr, _≢_}
-use mathlib.Core.List.{List}
-use Prim.Native.Nat.{ℕ, _+_, _≤_, _<_}
+use mathlib.Core.Path.{_≡_, sym, _∙_}
+use mathlib.Core.Logic.{_⊎_, inl, inr}
+use Prim.Native.Nat.{ℕ, _≤_, _<_}
 use native.Mathlib.Nat.{eq-zero-or-pos}
-use native.Mathlib.Omega.{arith}
 use Rattle.edges.specs.Edges.{Edge, same}
 use Rattle.edges.proofs.Sum.{sum, sum-pos, sum-find, sum-once}
 use Rattle.edges.proofs.Totals.{same-le, same-eq, same-of}

@@ -1,10 +1,9 @@
 -- Sums over the numbers below n. Assumes nothing.
-use mathlib.Core.Path.{_≡_, refl, sym, ap, _∙_, subst}
+use mathlib.Core.Path.{_≡_, refl}
 use mathlib.Core.Logic.{_⊎_, inl, inr, _≢_}
 use Prim.Native.Nat.{ℕ, zero, suc, _+_, _*_, _≤_, _<_}
-use native.Mathlib.Nat.{eq-zero-or-pos, eq-or-lt-of-le, le-of-suc-le-suc, zero-mul, add-mul}
+use native.Mathlib.Nat.{eq-zero-or-pos, eq-or-lt-of-le, le-of-suc-le-suc}
 use native.Mathlib.Omega.{arith}
-use lib.Arith.{le-zero}
 
 -- f 0 + .. + f (n - 1)
 abbrev pub sum : ℕ → (ℕ → ℕ) → ℕ

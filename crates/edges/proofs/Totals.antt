@@ -1,5 +1,5 @@
 -- Totals over the edges of a list of triangles, as sums over its blocks. Assumes nothing.
-use mathlib.Core.Path.{_≡_, refl, _∙_}
+use mathlib.Core.Path.{_≡_, refl}
 use mathlib.Core.List.{List, [], _∷_, _++_}
 use mathlib.Core.Bool.{Bool, true, false}
 use Prim.Native.Nat.{ℕ, zero, suc, _+_, _≤_, _<_}
@@ -7,8 +7,8 @@ use native.Mathlib.Omega.{arith}
 use lib.Dec.{T, eqb, eqb→eq, eqb-refl}
 use Rattle.list_laws.specs.Blocks.{blocks}
 use Rattle.surface.specs.Triangles.{Triangle, triangle}
-use Rattle.edges.specs.Edges.{Edge, _⟶_, edges, both, same, total, isZero, Within}
-use Rattle.edges.proofs.Sum.{sum, sum-cong}
+use Rattle.edges.specs.Edges.{Edge, _⟶_, edges, both, same, total, Within}
+use Rattle.edges.proofs.Sum.{sum}
 
 -- ---- two edges that are one
 
@@ -59,10 +59,6 @@ total-edges f xs ys = rw (edges-append xs ys) (total-append f (edges xs) (edges 
 pub total-blocks : (f : Edge → ℕ) (n : ℕ) (F : ℕ → List Triangle) → total f (edges (blocks n F)) ≡ sum n (λ k. total f (edges (F k)))
 total-blocks f zero F = refl
 total-blocks f (suc n) F = omega (arith, total-edges f (blocks n F) (F n), total-blocks f n F)
-
-pub isZero-pos : (c : ℕ) → 1 ≤ c → isZero c ≡ 0
-isZero-pos zero h = omega arith
-isZero-pos (suc c) h = refl
 
 -- ---- indices
 

@@ -1,11 +1,11 @@
 -- Each body's list, with its first vertex added, is the list of its surface; and so are the counts. Assumes nothing.
-use mathlib.Core.Path.{_≡_, refl, sym, ap, _∙_}
+use mathlib.Core.Path.{_≡_, sym, ap, _∙_}
 use mathlib.Core.Bool.{Bool, true, false, _&&_}
-use mathlib.Core.List.{List, [], _∷_, _++_}
+use mathlib.Core.List.{List, _++_}
 use Prim.Native.Nat.{ℕ, _+_, _*_, _^_}
 use lib.Dec.{leb}
 use native.Mathlib.Omega.{arith}
-use Rattle.surface.specs.Triangles.{Triangle, triangle, shift}
+use Rattle.surface.specs.Triangles.{Triangle, shift}
 use Rattle.surface.specs.Whole.{surfaceTriangles, surfaceVertexCount, surfaceTriangleCount, fits}
 use Rattle.surface.specs.declared.quads.Split.the-variants as Split
 use Rattle.kinds.specs.Lists.{next, ring, vertex, bottomTriangles, topTriangles, layers, closedTriangles, torusTriangles, tubeTriangles, ribbonTriangles}
@@ -13,7 +13,7 @@ use Rattle.kinds.specs.Kinds.{permitted, vertexCount, triangleCount, tri
 use Rattle.kinds.specs.declared.topology.Topology.{Topology}
 use Rattle.kinds.specs.declared.topology.Topology.the-variants.{Ribbon, Tube, Capsule, Torus, ClosedCylinder}
 use Rattle.kinds.proofs.Shift.{shift-append, shift-quads, shift-fan}
-use Rattle.surface.specs.Grid.{afterOf, gridTriangles}
+use Rattle.surface.specs.Grid.{gridTriangles}
 use Rattle.surface.specs.Caps.{capTriangles}
 use Rattle.surface.specs.declared.caps.End.the-variants.{Bottom, Top}
 use Rattle.surface.specs.declared.grid.Chain.the-variants.{Open, Closed}

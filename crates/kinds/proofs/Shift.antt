@@ -1,7 +1,7 @@
 -- A body's first vertex added to lists made of quads and of fans. Assumes nothing.
-use mathlib.Core.Path.{_≡_, refl, sym, ap, _∙_}
+use mathlib.Core.Path.{_≡_, refl, ap, _∙_}
 use mathlib.Core.List.{List, [], _∷_, _++_}
-use Prim.Native.Nat.{ℕ, zero, suc, _+_, _<_}
+use Prim.Native.Nat.{ℕ, zero, suc, _+_}
 use Rattle.list_laws.specs.Blocks.{blocks, blocks-cong}
 use Rattle.surface.specs.Triangles.{Triangle, triangle, shift}
 use Rattle.surface.specs.Quads.{quadOf}

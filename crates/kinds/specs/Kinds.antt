@@ -1,6 +1,6 @@
 -- The five kinds by their numbers: what is permitted, how many vertices and triangles, and which triangles. Document 01, 'Triangle lists'
 -- and 'Refused, and through whom'. Definitions only.
-use mathlib.Core.Bool.{Bool, true, false, cond, _&&_}
+use mathlib.Core.Bool.{Bool, _&&_}
 use mathlib.Core.List.{List}
 use Prim.Native.Nat.{ℕ, _+_, _-_, _*_, _^_}
 use lib.Dec.{leb}

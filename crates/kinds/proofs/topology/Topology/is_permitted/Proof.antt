@@ -2,11 +2,6 @@
 use borrow.Author.Needs.{needs}
 use Rattle.kinds.proofs.topology.Topology.is_permitted.Statement.{statement}
 use Rattle.kinds.proofs.topology.Topology.is_permitted.Tie as tie
-use Rattle.kinds.proofs.capsule.Capsule.is_permitted.Reads as capsule-Capsule-is-permitted-reads
-use Rattle.kinds.proofs.closed_cylinder.ClosedCylinder.is_permitted.Reads as closed-cylinder-ClosedCylinder-is-permitted-reads
-use Rattle.kinds.proofs.ribbon.Ribbon.is_permitted.Reads as ribbon-Ribbon-is-permitted-reads
-use Rattle.kinds.proofs.torus.Torus.is_permitted.Reads as torus-Torus-is-permitted-reads
-use Rattle.kinds.proofs.tube.Tube.is_permitted.Reads as tube-Tube-is-permitted-reads
 
 enum-known-self : tie.Need-enum-known-self
 enum-known-self c = search needs

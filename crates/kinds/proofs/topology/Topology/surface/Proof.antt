@@ -2,11 +2,6 @@
 use borrow.Author.Needs.{needs}
 use Rattle.kinds.proofs.topology.Topology.surface.Statement.{statement}
 use Rattle.kinds.proofs.topology.Topology.surface.Tie as tie
-use Rattle.kinds.proofs.capsule.Capsule.surface.Reads as capsule-Capsule-surface-reads
-use Rattle.kinds.proofs.closed_cylinder.ClosedCylinder.surface.Reads as closed-cylinder-ClosedCylinder-surface-reads
-use Rattle.kinds.proofs.ribbon.Ribbon.surface.Reads as ribbon-Ribbon-surface-reads
-use Rattle.kinds.proofs.torus.Torus.surface.Reads as torus-Torus-surface-reads
-use Rattle.kinds.proofs.tube.Tube.surface.Reads as tube-Tube-surface-reads
 
 enum-known-self : tie.Need-enum-known-self
 enum-known-self c = search needs

@@ -2,11 +2,6 @@
 use borrow.Author.Needs.{needs}
 use Rattle.kinds.proofs.topology.Topology.triangle_count.Statement.{statement}
 use Rattle.kinds.proofs.topology.Topology.triangle_count.Tie as tie
-use Rattle.kinds.proofs.capsule.Capsule.triangle_count.Reads as capsule-Capsule-triangle-count-reads
-use Rattle.kinds.proofs.closed_cylinder.ClosedCylinder.triangle_count.Reads as closed-cylinder-ClosedCylinder-triangle-count-reads
-use Rattle.kinds.proofs.ribbon.Ribbon.triangle_count.Reads as ribbon-Ribbon-triangle-count-reads
-use Rattle.kinds.proofs.torus.Torus.triangle_count.Reads as torus-Torus-triangle-count-reads
-use Rattle.kinds.proofs.tube.Tube.triangle_count.Reads as tube-Tube-triangle-count-reads
 
 enum-known-self : tie.Need-enum-known-self
 enum-known-self c = search needs

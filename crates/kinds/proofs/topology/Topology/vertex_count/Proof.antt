@@ -2,11 +2,6 @@
 use borrow.Author.Needs.{needs}
 use Rattle.kinds.proofs.topology.Topology.vertex_count.Statement.{statement}
 use Rattle.kinds.proofs.topology.Topology.vertex_count.Tie as tie
-use Rattle.kinds.proofs.capsule.Capsule.vertex_count.Reads as capsule-Capsule-vertex-count-reads
-use Rattle.kinds.proofs.closed_cylinder.ClosedCylinder.vertex_count.Reads as closed-cylinder-ClosedCylinder-vertex-count-reads
-use Rattle.kinds.proofs.ribbon.Ribbon.vertex_count.Reads as ribbon-Ribbon-vertex-count-reads
-use Rattle.kinds.proofs.torus.Torus.vertex_count.Reads as torus-Torus-vertex-count-reads
-use Rattle.kinds.proofs.tube.Tube.vertex_count.Reads as tube-Tube-vertex-count-reads
 
 enum-known-self : tie.Need-enum-known-self
 enum-known-self c = search needs
