@@ -5,7 +5,7 @@ use mathlib.Core.List.{[], _∷_}
 use Prim.Native.Nat.{ℕ, zero, suc, _<_}
 use native.Mathlib.Omega.{arith}
 use lib.ListN.{getD}
-use Rattle.list_laws.specs.Blocks.{blocks}
+use Rattle.laws.specs.Blocks.{blocks}
 use Rattle.surface.specs.Triangles.{triangle}
 use Rattle.edges.specs.Edges.{Edge, _⟶_, edges, total}
 use Rattle.edges.proofs.Sum.{sum, sum-cong}

@@ -5,7 +5,7 @@ use mathlib.Core.Bool.{Bool, true, false}
 use Prim.Native.Nat.{ℕ, zero, suc, _+_, _≤_, _<_}
 use native.Mathlib.Omega.{arith}
 use lib.Dec.{T, eqb, eqb→eq, eqb-refl}
-use Rattle.list_laws.specs.Blocks.{blocks}
+use Rattle.laws.specs.Blocks.{blocks}
 use Rattle.surface.specs.Triangles.{Triangle, triangle}
 use Rattle.edges.specs.Edges.{Edge, _⟶_, edges, both, same, total, Within}
 use Rattle.edges.proofs.Sum.{sum}

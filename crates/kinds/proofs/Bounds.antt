@@ -1,9 +1,10 @@
 -- What a permitted body's numbers are, as inequalities. Assumes nothing.
-use mathlib.Core.Path.{_≡_, refl, sym, subst}
-use mathlib.Core.Bool.{Bool, true, false, _&&_}
+use mathlib.Core.Path.{_≡_}
+use mathlib.Core.Bool.{true, _&&_}
 use Prim.Native.Nat.{ℕ, _+_, _*_, _≤_}
 use borrow.Author.Tests.{leb-true}
-use lib.Dec.{T, leb}
+use lib.Dec.{leb}
+use Rattle.laws.specs.Tests.{both-true}
 use Rattle.kinds.specs.Limits.{between, segmentsPermitted, loopPermitted, divisionsPermitted, longitudesPermitted, layersPermitted}
 use Rattle.kinds.specs.Kinds.{permitted}
 use Rattle.kinds.specs.declared.topology.Topology.{Topology}
@@ -11,10 +12,6 @@ use Rattle.kinds.specs.declared.topology.Topology.the-variants.{Ribbon, 
 
 abbrev pub Between : ℕ → ℕ → ℕ → Type 0
 Between least most x = (least ≤ x) × (x ≤ most)
-
-both-true : (a b : Bool) → a && b ≡ true → (a ≡ true) × (b ≡ true)
-both-true true b h = (refl, h)
-both-true false b h = absurd (subst T (sym h) tt)
 
 between-true : (least most x : ℕ) → between least most x ≡ true → Between least most x
 between-true least most x h =

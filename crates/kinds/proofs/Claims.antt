@@ -6,7 +6,7 @@ use Prim.Native.Nat.{ℕ, _+_, _-_, _*_, _≤_}
 use native.Mathlib.Nat.{zero-add}
 use native.Mathlib.Omega.{arith}
 use lib.ListN.{length, length-append}
-use Rattle.list_laws.specs.Blocks.{blocks, length-blocks}
+use Rattle.laws.specs.Blocks.{blocks, length-blocks}
 use Rattle.surface.specs.Triangles.{Triangle, triangle, shift}
 use Rattle.surface.specs.Grid.{pointsOf, gridTriangles}
 use Rattle.surface.specs.declared.grid.Chain.the-variants.{Open, Closed}

@@ -2,7 +2,7 @@
 use mathlib.Core.Path.{_≡_, refl, ap, _∙_}
 use mathlib.Core.List.{List, [], _∷_, _++_}
 use Prim.Native.Nat.{ℕ, zero, suc, _+_}
-use Rattle.list_laws.specs.Blocks.{blocks, blocks-cong}
+use Rattle.laws.specs.Blocks.{blocks, blocks-cong}
 use Rattle.surface.specs.Triangles.{Triangle, triangle, shift}
 use Rattle.surface.specs.Quads.{quadOf}
 use Rattle.surface.specs.declared.quads.Split.{Split}

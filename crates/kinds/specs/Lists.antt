@@ -2,7 +2,7 @@
 -- N curve vertices of a torus, S layers. Definitions only.
 use mathlib.Core.List.{List, [], _∷_, _++_}
 use Prim.Native.Nat.{ℕ, _+_, _*_, _%_}
-use Rattle.list_laws.specs.Blocks.{blocks}
+use Rattle.laws.specs.Blocks.{blocks}
 use Rattle.surface.specs.Triangles.{Triangle, triangle}
 
 -- "Ring indices i and i + 1 wrap at n."

@@ -4,8 +4,8 @@ use mathlib.Core.List.{List, [], _∷_, _++_}
 use Prim.Native.Nat.{ℕ, zero, suc, _+_}
 use native.Mathlib.Nat.{zero-add}
 use lib.ListN.{length}
-use Rattle.list_laws.specs.Overwrite.{overwrite, overwrite-append}
-use Rattle.list_laws.specs.Blocks.{blocks, all-written}
+use Rattle.laws.specs.Overwrite.{overwrite, overwrite-append}
+use Rattle.laws.specs.Blocks.{blocks, all-written}
 use Rattle.surface.specs.Triangles.{Triangle, triangle, flatten}
 
 pub flatten-append : (a b : List Triangle) → flatten (a ++ b) ≡ flatten a ++ flatten b

@@ -4,7 +4,7 @@ use mathlib.Core.Bool.{true, false}
 use mathlib.Core.List.{List, [], _∷_, _++_}
 use Prim.Native.Nat.{ℕ, _+_, _*_}
 use lib.ListN.{length}
-use Rattle.list_laws.specs.Blocks.{length-blocks}
+use Rattle.laws.specs.Blocks.{length-blocks}
 use Rattle.surface.specs.Triangles.{Triangle, flatten, rows, rowOf, rowsOf}
 use Rattle.surface.specs.Quads.{quadOf}
 use Rattle.surface.specs.Grid.{afterOf, pointsOf, rowTriangles, gridTriangles}

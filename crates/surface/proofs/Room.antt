@@ -1,21 +1,18 @@
 -- What it means that a surface fits: where its vertices' numbers and its triangles' places end. Assumes nothing.
-use mathlib.Core.Path.{_≡_, refl, sym}
-use mathlib.Core.Bool.{Bool, true, false, cond, _&&_, true≢false}
+use mathlib.Core.Path.{_≡_, sym}
+use mathlib.Core.Bool.{Bool, true, false, cond, true≢false}
 use Prim.Native.Nat.{ℕ, _+_, _*_, _^_, _≤_, _<_}
 use native.Mathlib.Omega.{arith}
 use borrow.Author.Tests.{leb-true}
 use lib.Dec.{leb}
-use Rattle.list_laws.specs.Products.{row-within}
+use Rattle.laws.specs.Products.{row-within}
+use Rattle.laws.specs.Tests.{both-true}
 use Rattle.surface.specs.Grid.{pointsOf}
 use Rattle.surface.specs.Whole.{chainOf, isCapped, ringCount, ringSize, gridSize, surfaceVertexCount, surfaceTriangleCount, fits, GridFits}
 use Rattle.surface.specs.declared.whole.Along.{Along}
 use Rattle.surface.specs.declared.whole.Along.the-variants.{Open, Closed, Capped}
 use Rattle.surface.specs.declared.whole.Surface.{Surface}
 use Rattle.surface.proofs.Chains.{points-bounds}
-
-both : (p q : Bool) → p && q ≡ true → (p ≡ true) × (q ≡ true)
-both true q h = (refl, h)
-both false q h = (h, (cc))
 
 -- between caps there is one ring more than there are rows
 one-more-ring : (along : Along) (n : ℕ) → isCapped along ≡ true → n < pointsOf (chainOf along) n
@@ -28,7 +25,7 @@ module _ (s : Surface) (first room : ℕ) (fit : fits s first room ≡ true) whe
       → (first + (gridSize s + cond b 2 0) ≤ 2 ^ 28) × (3 * (2 * (s .rows * s .columns) + cond b (2 * s .columns) 0) ≤ room)
   unfolding fits surfaceVertexCount surfaceTriangleCount
   bounds b is =
-      let p = both (leb (first + surfaceVertexCount s) (2 ^ 28)) (leb (3 * surfaceTriangleCount s) room) fit in
+      let p = both-true (leb (first + surfaceVertexCount s) (2 ^ 28)) (leb (3 * surfaceTriangleCount s) room) fit in
       rw (← is) (leb-true (first + surfaceVertexCount s) (2 ^ 28) (p .0), leb-true (3 * surfaceTriangleCount s) room (p .1))
 
   pub bare-fits : isCapped (s .along) ≡ false → GridFits s first 0 room

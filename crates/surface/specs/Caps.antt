@@ -1,7 +1,7 @@
 -- The caps of capsule and closed cylinder. Document 01, 'Triangle lists'. Definitions only.
 use mathlib.Core.List.{List, [], _∷_}
 use Prim.Native.Nat.{ℕ, _+_, _*_, _^_, _≤_}
-use Rattle.list_laws.specs.Blocks.{blocks}
+use Rattle.laws.specs.Blocks.{blocks}
 use Rattle.surface.specs.Triangles.{Triangle, triangle}
 use Rattle.surface.specs.Grid.{afterOf}
 use Rattle.surface.specs.declared.grid.Chain.the-variants.{Closed}

@@ -1,7 +1,7 @@
 -- A grid of quads: the one device behind the lists of all kinds. Definitions only.
 use mathlib.Core.List.{List}
 use Prim.Native.Nat.{ℕ, _+_, _*_, _%_, _^_, _≤_}
-use Rattle.list_laws.specs.Blocks.{blocks}
+use Rattle.laws.specs.Blocks.{blocks}
 use Rattle.surface.specs.Triangles.{Triangle}
 use Rattle.surface.specs.Quads.{quadOf}
 use Rattle.surface.specs.declared.quads.Split.{Split}

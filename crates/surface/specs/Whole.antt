@@ -3,7 +3,7 @@ use mathlib.Core.Bool.{Bool, true, false, cond, _&&_}
 use mathlib.Core.List.{List, _++_}
 use Prim.Native.Nat.{ℕ, _+_, _*_, _^_, _≤_}
 use lib.Dec.{leb}
-use Rattle.list_laws.specs.Overwrite.{overwrite}
+use Rattle.laws.specs.Overwrite.{overwrite}
 use Rattle.surface.specs.Triangles.{Triangle}
 use Rattle.surface.specs.Grid.{pointsOf, gridTriangles}
 use Rattle.surface.specs.Caps.{capTriangles}

@@ -1,7 +1,7 @@
 ghost use mathlib.Core.Path.{_≡_};
 ghost use mathlib.Core.List.{[], _∷_};
 ghost use lib.ListN.{length};
-ghost use Rattle.list_laws.specs.Overwrite.{overwrite};
+ghost use Rattle.laws.specs.Overwrite.{overwrite};
 ghost use Rattle.surface.specs.Triangles.{flatten};
 ghost use Rattle.surface.specs.Caps.{capTriangle, capTriangles, CapFits};
 use crate::grid::Chain;

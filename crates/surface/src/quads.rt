@@ -1,7 +1,7 @@
 ghost use mathlib.Core.Path.{_≡_};
 ghost use Prim.Native.Nat.{_+_, _≤_};
 ghost use lib.ListN.{length};
-ghost use Rattle.list_laws.specs.Overwrite.{overwrite};
+ghost use Rattle.laws.specs.Overwrite.{overwrite};
 ghost use Rattle.surface.specs.Triangles.{rows, rowOf, rowsOf};
 ghost use Rattle.surface.specs.Quads.{quadOf};
 

@@ -1,7 +1,7 @@
 ghost use mathlib.Core.Path.{_≡_};
 ghost use mathlib.Core.Bool.{true};
 ghost use lib.ListN.{length};
-ghost use Rattle.list_laws.specs.Overwrite.{overwrite};
+ghost use Rattle.laws.specs.Overwrite.{overwrite};
 ghost use Rattle.surface.specs.Triangles.{flatten};
 ghost use Rattle.surface.specs.Whole.{chainOf, isCapped, ringCount, ringSize, surfaceVertexCount, surfaceTriangleCount, surfaceTriangles, fits, placed};
 use crate::caps::End;

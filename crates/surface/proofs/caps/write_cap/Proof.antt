@@ -5,8 +5,8 @@ use native.Mathlib.Omega.{arith}
 use borrow.Author.Needs.{needs}
 use denote.Ref.{now}
 use lib.ListN.{length}
-use Rattle.list_laws.specs.Overwrite.{overwrite, overwrite-none}
-use Rattle.list_laws.specs.Blocks.{blocks, one-more}
+use Rattle.laws.specs.Overwrite.{overwrite, overwrite-none}
+use Rattle.laws.specs.Blocks.{blocks, one-more}
 use Rattle.surface.specs.declared.grid.Chain.the-variants.{Closed}
 use Rattle.surface.proofs.Chains.{after-lt}
 use Rattle.surface.proofs.Flatten.{numbers, blocks-written}

@@ -6,9 +6,9 @@ use native.Mathlib.Omega.{arith}
 use borrow.Author.Needs.{needs}
 use denote.Ref.{now}
 use lib.ListN.{length}
-use Rattle.list_laws.specs.Overwrite.{overwrite, overwrite-none}
-use Rattle.list_laws.specs.Blocks.{blocks, one-more}
-use Rattle.list_laws.specs.Products.{next-row, row-within}
+use Rattle.laws.specs.Overwrite.{overwrite, overwrite-none}
+use Rattle.laws.specs.Blocks.{blocks, one-more}
+use Rattle.laws.specs.Products.{next-row, row-within}
 use Rattle.surface.specs.Triangles.{flatten}
 use Rattle.surface.specs.Grid.{afterOf, pointsOf, rowTriangles, gridTriangles}
 use Rattle.surface.specs.Whole.{ringSize}

@@ -5,7 +5,7 @@ use Prim.Native.Nat.{ℕ, _+_}
 use borrow.Author.Needs.{needs}
 use denote.Ref.{now}
 use lib.ListN.{getD}
-use Rattle.list_laws.specs.Overwrite.{overwrite, overwrite-append}
+use Rattle.laws.specs.Overwrite.{overwrite, overwrite-append}
 use Rattle.surface.specs.Triangles.{rowOf}
 use Rattle.surface.proofs.quads.put_quad.Statement.{statement}
 use Rattle.surface.proofs.quads.put_quad.Tie as tie

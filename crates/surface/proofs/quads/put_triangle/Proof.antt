@@ -2,7 +2,7 @@
 use denote.Ref.{now}
 use lib.ListN.{getD, length-set}
 use native.Mathlib.Omega.{arith}
-use Rattle.list_laws.specs.Overwrite.{three-stores}
+use Rattle.laws.specs.Overwrite.{three-stores}
 use borrow.Author.Needs.{needs}
 use Rattle.surface.proofs.quads.put_triangle.Statement.{statement}
 use Rattle.surface.proofs.quads.put_triangle.Tie as tie

@@ -6,7 +6,7 @@ use native.Mathlib.Omega.{arith}
 use borrow.Author.Needs.{needs}
 use denote.Ref.{now}
 use lib.ListN.{length}
-use Rattle.list_laws.specs.Overwrite.{overwrite}
+use Rattle.laws.specs.Overwrite.{overwrite}
 use Rattle.surface.specs.Triangles.{flatten}
 use Rattle.surface.specs.Whole.{chainOf, ringSize, gridSize, surfaceGrid}
 use Rattle.surface.specs.declared.caps.End.the-variants.{Bottom}

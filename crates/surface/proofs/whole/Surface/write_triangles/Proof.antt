@@ -5,7 +5,7 @@ use borrow.Author.Needs.{needs}
 use borrow.Author.Tests.{not-true, not-false}
 use denote.Ref.{now}
 use lib.ListN.{length}
-use Rattle.list_laws.specs.Overwrite.{overwrite}
+use Rattle.laws.specs.Overwrite.{overwrite}
 use Rattle.surface.specs.Triangles.{flatten}
 use Rattle.surface.specs.Whole.{isCapped, fits}
 use Rattle.surface.proofs.Pieces.{bare-parts}

@@ -1,3 +1,4 @@
 pub mod Overwrite
 pub mod Blocks
 pub mod Products
+pub mod Tests

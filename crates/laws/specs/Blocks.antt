@@ -6,7 +6,7 @@ use native.Mathlib.Nat.{suc-mul}
 use native.Mathlib.Numerals.{add-one}
 use native.Mathlib.Omega.{arith}
 use lib.ListN.{length, length-append}
-use Rattle.list_laws.specs.Overwrite.{overwrite, overwrite-append}
+use Rattle.laws.specs.Overwrite.{overwrite, overwrite-append}
 
 module _ {ℓ} {A : Type ℓ} where
   -- f 0, then f 1, up to f (n - 1), one after the other; it grows at its end, as the loop that writes it does

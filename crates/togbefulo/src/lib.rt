@@ -1,0 +1,2 @@
+// The proved core as C functions, for other languages to link.
+mod arithmetic;

@@ -1,0 +1,149 @@
+// Prints the worked values of root, turn, first frame and transport step: a line for each case, with its words and the words of
+// its result in hexadecimal. The expected output was made outside Rattle, by tests/src/bin/worked_values.rs.
+mod cases;
+
+ghost use Prim.Native.Nat.{_≤_};
+ghost use lib.ListN.{length};
+ghost use Rattle.io.specs.Counts.{Counts};
+use crate::cases::FIRST_FRAMES;
+use crate::cases::ROOTS;
+use crate::cases::TRANSPORT_STEPS;
+use crate::cases::TURNS;
+use float32::from_word;
+use float32::root;
+use float32::to_word;
+use hex_lines::put_name;
+use hex_lines::put_words;
+use vec3::Frame;
+use vec3::Point;
+use vec3::turn;
+
+fn point(w: [u32; 3]) -> Point {
+    Point {
+        x: from_word(w[0]),
+        y: from_word(w[1]),
+        z: from_word(w[2]),
+    }
+}
+
+fn words(p: Point) -> [u32; 3] {
+    [to_word(p.x), to_word(p.y), to_word(p.z)]
+}
+
+fn put_triple(out: &mut [u8], at: usize, w: [u32; 3], end: u8) -> usize
+    requires { ⌜ at ≤ length (now out) ⌝ }
+    ensures { λ r. ⌜ r ≤ length (now (out .exit)) ⌝ }
+{
+    put_words(out, at, &w, end)
+}
+
+fn put_root(out: &mut [u8], at: usize, x: u32) -> usize
+    requires { ⌜ at ≤ length (now out) ⌝ }
+    ensures { λ r. ⌜ r ≤ length (now (out .exit)) ⌝ }
+{
+    let r = to_word(root(from_word(x)));
+    let next = put_name(out, at, b"root");
+    put_words(out, next, &[x, r], b'\n')
+}
+
+fn put_roots(out: &mut [u8]) -> usize
+    ensures { λ r. ⌜ Counts r (now (out .exit)) ⌝ }
+{
+    let cases = ROOTS;
+    let mut at = 0;
+    let mut i = 0;
+    while i < cases.len() {
+        at = put_root(out, at, cases[i]);
+        i += 1;
+    }
+    at
+}
+
+fn put_turn(out: &mut [u8], at: usize, c: [u32; 2]) -> usize
+    requires { ⌜ at ≤ length (now out) ⌝ }
+    ensures { λ r. ⌜ r ≤ length (now (out .exit)) ⌝ }
+{
+    let d = turn(c[0], c[1]);
+    let next = put_name(out, at, b"turn");
+    let next = put_words(out, next, &c, b' ');
+    put_words(out, next, &[to_word(d.cos), to_word(d.sin)], b'\n')
+}
+
+fn put_turns(out: &mut [u8]) -> usize
+    ensures { λ r. ⌜ Counts r (now (out .exit)) ⌝ }
+{
+    let cases = TURNS;
+    let mut at = 0;
+    let mut i = 0;
+    while i < cases.len() {
+        at = put_turn(out, at, cases[i]);
+        i += 1;
+    }
+    at
+}
+
+fn put_first_frame(out: &mut [u8], at: usize, v: [u32; 3]) -> usize
+    requires { ⌜ at ≤ length (now out) ⌝ }
+    ensures { λ r. ⌜ r ≤ length (now (out .exit)) ⌝ }
+{
+    let frame = Frame::first(point(v));
+    let next = put_name(out, at, b"first_frame");
+    let next = put_triple(out, next, v, b' ');
+    put_triple(out, next, words(frame.ex), b'\n')
+}
+
+fn put_first_frames(out: &mut [u8]) -> usize
+    ensures { λ r. ⌜ Counts r (now (out .exit)) ⌝ }
+{
+    let cases = FIRST_FRAMES;
+    let mut at = 0;
+    let mut i = 0;
+    while i < cases.len() {
+        at = put_first_frame(out, at, cases[i]);
+        i += 1;
+    }
+    at
+}
+
+// Both segments are normalised, the frame is taken as it is.
+fn next_frame(before: [u32; 3], after: [u32; 3], b: [u32; 3]) -> Frame {
+    let frame = Frame { ex: point(b) };
+    frame.transport(point(before).normalize(), point(after).normalize())
+}
+
+fn put_transport_step(out: &mut [u8], at: usize, c: [[u32; 3]; 3]) -> usize
+    requires { ⌜ at ≤ length (now out) ⌝ }
+    ensures { λ r. ⌜ r ≤ length (now (out .exit)) ⌝ }
+{
+    let frame = next_frame(c[0], c[1], c[2]);
+    let next = put_name(out, at, b"transport_step");
+    let next = put_triple(out, next, c[0], b' ');
+    let next = put_triple(out, next, c[1], b' ');
+    let next = put_triple(out, next, c[2], b' ');
+    put_triple(out, next, words(frame.ex), b'\n')
+}
+
+fn put_transport_steps(out: &mut [u8]) -> usize
+    ensures { λ r. ⌜ Counts r (now (out .exit)) ⌝ }
+{
+    let cases = TRANSPORT_STEPS;
+    let mut at = 0;
+    let mut i = 0;
+    while i < cases.len() {
+        at = put_transport_step(out, at, cases[i]);
+        i += 1;
+    }
+    at
+}
+
+fn main() {
+    let mut text = io::buffer();
+    let n = put_roots(&mut text);
+    io::write_all(1, &text[..n]);
+    let n = put_turns(&mut text);
+    io::write_all(1, &text[..n]);
+    let n = put_first_frames(&mut text);
+    io::write_all(1, &text[..n]);
+    let n = put_transport_steps(&mut text);
+    io::write_all(1, &text[..n]);
+}
