@@ -1,17 +1,14 @@
--- The bit patterns of an `f32`: what number each stands for. Assumes nothing.
+-- The bit patterns of an `f32`: what number each stands for.
 use mathlib.Core.Path.{_≡_, refl, sym, ap, _∙_, subst}
-use Prim.Native.Nat.{ℕ, zero, suc, _+_, _-_, _*_, _/_, _%_, _^_, _≤_, _<_}
+use Prim.Native.Nat.{ℕ, suc, _+_, _-_, _*_, _/_, _%_, _^_, _≤_, _<_}
 use native.Mathlib.Nat.{not-le-of-lt, mod-eq-of-lt, mul-one, mul-assoc, add-comm}
 use native.Mathlib.Omega.{arith}
-use mathlib.Core.Bool.{Bool, true, false, not, cond}
-use lib.Dec.{T, leb, ltb, eqb, leb→le, le→leb, ltb→lt, nltb→le, eqb→eq, not-T}
+use mathlib.Core.Bool.{Bool, false, cond}
+use lib.Dec.{T, leb, eqb, leb→le, eqb→eq, not-T}
 use lib.Pow.{pow-add}
-use lib.Ieee.{Float, nan, inf, fin, binary32, up, down, odd, ofFields, ofBits, toBits, div, fits, nanBits, isNan}
-use lib.Ieee.Fits.{down-pos}
-use lib.Ieee.Bits.{is-true, is-false, cond-no, nanBits-is, nanBits-above, ofBits-toBits}
+use lib.Ieee.{Float, nan, inf, binary32, odd, ofFields, ofBits}
+use lib.Ieee.Bits.{is-false, cond-no}
 use lib.Ieee.Exact.{HasValue, odd-sign}
-use borrow.Author.Tests.{lt-ltb, le-ltb}
-use Rattle.float32.specs.Root.{rootOf}
 
 pub ofBits-is : (b : ℕ) → ofBits binary32 b ≡ ofFields binary32 (leb 2147483648 b) (b % 2147483648 / 8388608) (b % 8388608)
 unfolding ofBits

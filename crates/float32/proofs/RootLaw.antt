@@ -1,7 +1,7 @@
 -- The root of an `f32` above zero, from the whole number nearest to the root of a square of 47 or 48 digits.
 use mathlib.Core.Path.{_≡_, refl, sym, ap, _∙_, subst}
 use mathlib.Core.Logic.{inl, inr}
-use Prim.Native.Nat.{ℕ, zero, suc, _+_, _-_, _*_, _/_, _%_, _^_, _≤_, _<_, compare}
+use Prim.Native.Nat.{ℕ, zero, suc, _+_, _-_, _*_, _/_, _^_, _≤_, _<_, compare}
 use native.Mathlib.Nat.{lt-irrefl, lt-of-not-le, le-of-suc-le-suc, zero-mul, eq-or-lt-of-le, mul-le-mul-right, mul-pos, mul-assoc, div-mul-le-self, lt-div-mul-add}
 use native.Mathlib.Omega.{arith}
 use mathlib.Core.Bool.{true, false}

@@ -1,4 +1,4 @@
--- What the steps of the root promise each other. Definitions only.
+-- What the steps of the root (document 01, 'Arithmetic', Root) promise each other. Definitions only.
 use Prim.Native.Nat.{ℕ, _+_, _*_, _^_, _≤_, _<_}
 use mathlib.Core.Bool.{false}
 use mathlib.Core.Path.{_≡_}

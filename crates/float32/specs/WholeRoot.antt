@@ -1,4 +1,4 @@
--- The whole part of a square root, by comparing squares.
+-- The whole part of a square root, by comparing squares (document 01, 'Arithmetic', Root: "defined over whole numbers by comparing squares").
 use Prim.Native.Nat.{ℕ, zero, suc, _+_, _-_, _*_, _/_, _^_, _≤_, _<_}
 use mathlib.Core.Path.{_≡_, sym, subst}
 use native.Mathlib.Nat.{lt-of-lt-of-le, pow-le-pow-left}

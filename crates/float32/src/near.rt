@@ -1,14 +1,14 @@
 // The whole number nearest to a root: guessed, checked by comparing squares, and searched for where the guess is wrong.
-ghost use Prim.Native.Nat.{_<_, _≤_};
+ghost use Prim.Native.Nat.{_<_};
 ghost use Rattle.float32.specs.Near.{Near};
 
-// About 2 ^ 29 + √z, for the z from 1 to 4 whose pattern is t places past that of 1. The pattern of 1 / √z is near a constant less half
-// that of z, so y is near 1 / √z and d near 1, and a polynomial in d mends s. Nothing is promised: the caller checks.
-pub fn guess(t: u64) -> f64
+// About 2 ^ 29 + √z, for z from 1 to 4 with a pattern that is t · 2 ^ 29 past that of 1. The pattern of 1 / √z is near a constant less
+// half that of z: so y is near 1 / √z, d is near 1, and a polynomial in d mends s. Nothing is promised, since `near_root` checks it.
+pub(crate) fn guess(t: u64) -> f64
     requires { ⌜ t < 16777216 ⌝ }
 {
-    let b = t * 536870912 + 4607182418800017408;
-    let y = f64::from_bits(6910395671077978112 - b / 2);
+    let b = t * 536870912 + 0x3ff0_0000_0000_0000;
+    let y = f64::from_bits(0x5fe6_a840_0000_0000 - b / 2);
     let s = f64::from_bits(b) * y;
     let d = s * y;
     let u = (d - 3.0204603475409460717) * d + 1.6084860037819542911;
@@ -16,6 +16,7 @@ pub fn guess(t: u64) -> f64
         + 536870911.999999940395355224609375
 }
 
+// The whole number nearest to the root of n, between one that is too low and one that is not.
 fn by_halves(n: u64) -> u64
     requires { ⌜ (0 < n) × (n < 281474976710656) ⌝ }
     ensures { λ g. ⌜ Near n g ⌝ }
@@ -33,9 +34,9 @@ fn by_halves(n: u64) -> u64
     hi
 }
 
-// The whole number nearest to the root of n: q or the next one, where the root is within one of the middle between them. The guess d
-// has q in its last digits.
-pub fn near_root(n: u64, d: f64) -> u64
+// The whole number nearest to the root of n. The last digits of the guess are a number q, and it is q or q + 1 where the root is within
+// one of the middle between the two: w is the square of that middle, less 1/4.
+pub(crate) fn near_root(n: u64, d: f64) -> u64
     requires { ⌜ (0 < n) × (n < 281474976710656) ⌝ }
     ensures { λ g. ⌜ Near n g ⌝ }
 {

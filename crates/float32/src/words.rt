@@ -1,3 +1,4 @@
+// Which values are finite, and bit patterns for every value.
 ghost use mathlib.Core.Path.{_≡_};
 ghost use lib.Ieee.{binary32, ofBits, toBits};
 ghost use lib.Ieee.Scale.{finite};
@@ -27,7 +28,7 @@ pub fn to_word(x: f32) -> u32
 pub fn from_word(w: u32) -> f32
     ensures { λ x. ⌜ x ≡ ofBits binary32 w ⌝ }
 {
-    if w % 2147483648 > 2139095040 {
+    if w % 0x8000_0000 > 0x7f80_0000 {
         return 0.0 / 0.0;
     }
     f32::from_bits(w)

@@ -1,4 +1,4 @@
--- What a buffer holds once a text is put into it. Definitions only.
+-- What a buffer holds once a text is put into it: nothing of document 01. Definitions only.
 use mathlib.Core.Path.{_≡_}
 use mathlib.Core.List.{List}
 use Prim.Native.Nat.{ℕ, _+_, min, max}

@@ -1,4 +1,4 @@
--- Hexadecimal words as text. Definitions only.
+-- Hexadecimal words as text, for the programs that print worked values: nothing of document 01. Definitions only.
 use Prim.Native.Nat.{ℕ, _+_, _-_, _*_, _/_, _%_, _^_}
 use mathlib.Core.Bool.{cond}
 use mathlib.Core.List.{List, [], _∷_, _++_}

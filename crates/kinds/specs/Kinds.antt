@@ -50,7 +50,8 @@ trianglesOf (Capsule k) = closedTriangles (k .divisions) (layersOf k)
 trianglesOf (Torus k) = torusTriangles (k .divisions) (k .vertices)
 trianglesOf (ClosedCylinder k) = closedTriangles (k .divisions) (k .layers)
 
--- Whether a body's triangles can be written from `first` on into a buffer of `room` numbers: document 01 has no total above 2 ^ 28.
+-- Whether a body's triangles can be written, its vertices numbered from `first` on, into a buffer of `room` numbers: it is permitted, and
+-- neither "exceed their buffer or take their total above 2^28" (3 and 4).
 unfoldable pub writable : Topology → ℕ → ℕ → Bool
 writable t first room = permitted t && (leb (first + vertexCount t) (2 ^ 28) && leb (3 * triangleCount t) room)
 

@@ -1,4 +1,4 @@
--- What a buffer holds after a write, as one list. Assumes nothing.
+-- What a buffer holds after a write, as one list: every element, as document 01, 'At review', wants it. Assumes nothing.
 use mathlib.Core.Path.{_≡_, refl, sym, ap, _∙_, subst}
 use mathlib.Core.List.{List, [], _∷_, _++_}
 use Prim.Native.Nat.{ℕ, zero, suc, _+_, _≤_, _<_}

@@ -1,4 +1,5 @@
--- A grid of quads: the one device behind the lists of all kinds. Definitions only.
+-- A grid of quads: the one device behind the lists of document 01, 'Triangle lists'. What is not quoted stands for the words that all kinds
+-- share there: rings, quads between ring g and ring g + 1, vertex i of ring g. Definitions only.
 use mathlib.Core.List.{List}
 use Prim.Native.Nat.{ℕ, _+_, _*_, _%_, _^_, _≤_}
 use Rattle.laws.specs.Blocks.{blocks}

@@ -1,4 +1,4 @@
--- A whole surface: a grid of quads, alone or between two caps. Definitions only.
+-- A whole surface: a grid of quads, alone or between two caps, as document 01, 'Triangle lists', has them kind by kind. Definitions only.
 use mathlib.Core.Bool.{Bool, true, false, cond, _&&_}
 use mathlib.Core.List.{List, _++_}
 use Prim.Native.Nat.{ℕ, _+_, _*_, _^_, _≤_}
@@ -53,11 +53,12 @@ surfaceVertexCount s = gridSize s + cond (isCapped (s .along)) 2 0
 unfoldable pub surfaceTriangleCount : Surface → ℕ
 surfaceTriangleCount s = 2 * (s .rows * s .columns) + cond (isCapped (s .along)) (2 * s .columns) 0
 
--- Whether a surface can be written: each of its vertices is numbered below 2 ^ 28, as document 01 asks, and its triangles have room.
+-- Whether a surface can be written: each of its vertices is numbered below 2 ^ 28, and its triangles have room ("exceed their buffer or take
+-- their total above 2^28", 'Refused, and through whom').
 unfoldable pub fits : Surface → ℕ → ℕ → Bool
 fits s first room = leb (first + surfaceVertexCount s) (2 ^ 28) && leb (3 * surfaceTriangleCount s) room
 
--- `old` with `new` at its front, or as it was.
+-- `old` with `new` at its front, or as it was ("leave all buffers untouched", 'Refused, and through whom').
 abbrev pub placed : Bool → List ℕ → List ℕ → List ℕ
 placed true new old = overwrite 0 new old
 placed false new old = old

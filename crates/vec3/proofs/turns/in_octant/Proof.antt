@@ -1,8 +1,7 @@
--- `vec3::turns::in_octant` meets its contract: at each o the arm is the table's entry. Assumes nothing.
-use mathlib.Core.Path.{_≡_, refl, sym, ap, _∙_}
+-- `vec3::turns::in_octant` meets its contract: at each o the arm is the table's entry.
+use mathlib.Core.Path.{_≡_}
 use Prim.Native.Nat.{ℕ, _≤_, _<_}
 use native.Mathlib.Omega.{arith}
-use lib.Ieee.{Float}
 use Rattle.vec3.specs.Turns.{inOctant}
 use Rattle.vec3.proofs.turns.in_octant.Statement.{statement}
 use Rattle.vec3.proofs.turns.in_octant.Tie as tie
