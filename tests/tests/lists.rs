@@ -1,0 +1,161 @@
+//! The proved triangle lists beside document 01's and del-msh's, what they leave untouched, what they
+//! refuse, and what demand 3 says about their edges.
+
+use togbefulo_tests::{
+    bodies, del_msh, edges,
+    edges::EdgeCounts,
+    generator::Generator,
+    library,
+    topology::{Body, LARGEST_TOTAL},
+};
+
+/// The body's list with local indices, in a buffer of exactly its length.
+fn written(body: Body) -> Vec<u32> {
+    let mut list = garbage(3 * body.triangle_count() as usize);
+    assert!(library::triangles(body, 0, &mut list), "{body:?}");
+    list
+}
+
+fn garbage(length: usize) -> Vec<u32> {
+    Generator::new(length as u64).words(length)
+}
+
+/// Lends a copy of `before`; it must come back with `front` at its front and the rest untouched.
+fn compare_accepted(body: Body, first: u32, before: &[u32], front: &[u32]) {
+    let mut after = before.to_vec();
+    let accepted = library::triangles(body, first, &mut after);
+    let rest = front.len()..;
+    assert!(accepted, "{body:?} from {first}: refused");
+    assert!(after.starts_with(front), "{body:?} from {first}: list");
+    assert!(
+        after[rest.clone()] == before[rest],
+        "{body:?} from {first}: rest"
+    );
+}
+
+/// Lends a copy of `before`; it must come back untouched.
+fn compare_refused(body: Body, first: u32, before: &[u32]) {
+    let mut after = before.to_vec();
+    let accepted = library::triangles(body, first, &mut after);
+    assert!(!accepted, "{body:?} from {first}: accepted");
+    assert!(after == before, "{body:?} from {first}: touched");
+}
+
+/// Every first vertex and buffer length that matters to one body.
+fn compare_body(body: Body) {
+    let list = body.triangles().concat();
+    let exact = 3 * body.triangle_count() as usize;
+    assert_eq!(list.len(), exact, "{body:?}: count");
+    let longer = garbage(exact + 7);
+    let last_first = LARGEST_TOTAL - body.vertex_count();
+    for first in [0, 1000, last_first] {
+        let front: Vec<u32> = list.iter().map(|index| index + first).collect();
+        compare_accepted(body, first, &longer[..exact], &front);
+        compare_accepted(body, first, &longer, &front);
+        compare_refused(body, first, &longer[..exact - 1]);
+    }
+    compare_refused(body, 0, &[]);
+    for first in [last_first + 1, u32::MAX] {
+        compare_refused(body, first, &longer);
+    }
+}
+
+fn compare_bodies(name: &str, bodies: Vec<Body>) {
+    bodies.iter().for_each(|&body| compare_body(body));
+    println!("{} {name} compared with document 01", bodies.len());
+}
+
+#[test]
+fn small_lists_are_document_01s() {
+    compare_bodies("small bodies", bodies::small());
+}
+
+#[test]
+fn lists_at_limits_are_document_01s() {
+    compare_bodies("bodies at limits", bodies::at_limits());
+}
+
+#[test]
+fn lists_from_anywhere_are_document_01s() {
+    compare_bodies("bodies from anywhere", bodies::anywhere(200));
+}
+
+#[test]
+fn lists_are_del_mshs() {
+    let bodies = all_bodies();
+    for &body in &bodies {
+        let source = del_msh_triangles(body).concat();
+        let indices = written(body).into_iter().map(|index| index as usize);
+        assert!(indices.eq(source), "{body:?}");
+    }
+    println!("{} bodies compared with del-msh", bodies.len());
+}
+
+fn all_bodies() -> Vec<Body> {
+    [bodies::small(), bodies::at_limits(), bodies::anywhere(200)].concat()
+}
+
+/// The source's list; its open curves have one vertex more than segments.
+fn del_msh_triangles(body: Body) -> Vec<[usize; 3]> {
+    let size = |number: u32| number as usize;
+    match body {
+        Body::Ribbon { segments } => del_msh::to_trimesh3_ribbon(size(segments) + 1),
+        Body::Tube {
+            divisions,
+            segments,
+        } => {
+            let (divisions, segments) = (size(divisions), size(segments));
+            let (num_tri, _) =
+                del_msh::cylinder_open_end_number_of_tri_and_vtx(divisions, segments);
+            let mut tri2vtx = vec![[0; 3]; num_tri];
+            del_msh::cylinder_open_end_set_topology(&mut tri2vtx, segments + 1);
+            tri2vtx
+        }
+        Body::Capsule {
+            divisions,
+            longitudes,
+            segments,
+        } => del_msh::to_trimesh3_capsule(size(segments) + 1, size(divisions), size(longitudes)),
+        Body::Torus {
+            divisions,
+            vertices,
+        } => del_msh::to_trimesh3_torus(size(vertices), size(divisions)),
+        Body::ClosedCylinder { divisions, layers } => {
+            del_msh::cylinder_closed_end_yup(size(divisions), size(layers))
+        }
+    }
+}
+
+/// Sizes at and outside each limit, and longitudes whose double wraps 16 bits.
+const SIZES: [u32; 14] = [
+    0, 1, 2, 3, 255, 256, 257, 4094, 4095, 4096, 4097, 32768, 32769, 65535,
+];
+
+/// Sizes outside each limit, alone and together, and sums and products that wrap to permitted ones.
+#[test]
+fn sizes_outside_are_refused() {
+    let mut bodies = bodies::combinations(&SIZES, &SIZES, &SIZES);
+    bodies.retain(|body| !body.is_permitted());
+    // Long enough for every size just outside 3 divisions, so that only the size can be the reason.
+    let before = garbage(90_000);
+    for &body in &bodies {
+        compare_refused(body, 0, &before);
+    }
+    println!("{} bodies of sizes outside compared", bodies.len());
+}
+
+#[test]
+fn edges_are_as_demand_3_says() {
+    let bodies = all_bodies();
+    for &body in &bodies {
+        let list = written(body);
+        let vertices = body.vertex_count();
+        assert!(list.iter().all(|&index| index < vertices), "{body:?}");
+        let expected = EdgeCounts {
+            used_again: 0,
+            unmatched: body.unmatched_edge_count(),
+        };
+        assert_eq!(edges::count(&list, vertices), expected, "{body:?}");
+    }
+    println!("edges of {} bodies counted", bodies.len());
+}
