@@ -1,7 +1,15 @@
 // The cases, the same as in tests/src/cases.rs.
+pub const ROOT_COUNT: usize = 64;
+
+pub const TURN_COUNT: usize = 45;
+
+pub const FIRST_FRAME_COUNT: usize = 31;
+
+pub const TRANSPORT_STEP_COUNT: usize = 25;
+pub const LINE_COUNT: usize = ROOT_COUNT + TURN_COUNT + FIRST_FRAME_COUNT + TRANSPORT_STEP_COUNT;
 
 // Bits of the numbers whose roots are worked out.
-pub const ROOTS: [u32; 64] = [
+pub const ROOTS: [u32; ROOT_COUNT] = [
     // both zeros
     0x00000000,
     0x80000000,
@@ -79,7 +87,7 @@ pub const ROOTS: [u32; 64] = [
 ];
 
 // Pairs of k and n whose direction is worked out.
-pub const TURNS: [[u32; 2]; 45] = [
+pub const TURNS: [[u32; 2]; TURN_COUNT] = [
     [0, 1],
     [0, 2],
     [1, 2],
@@ -129,7 +137,7 @@ pub const TURNS: [[u32; 2]; 45] = [
 ];
 
 // Bits of directions whose first frame is worked out.
-pub const FIRST_FRAMES: [[u32; 3]; 31] = [
+pub const FIRST_FRAMES: [[u32; 3]; FIRST_FRAME_COUNT] = [
     // the axes, both ways
     [0x3F800000, 0x00000000, 0x00000000],
     [0xBF800000, 0x00000000, 0x00000000],
@@ -172,7 +180,7 @@ pub const FIRST_FRAMES: [[u32; 3]; 31] = [
 
 // Bits of the segment before, the segment after and the frame whose transport is worked out.
 // Both segments are normalised first, the frame is taken as it is.
-pub const TRANSPORT_STEPS: [[[u32; 3]; 3]; 25] = [
+pub const TRANSPORT_STEPS: [[[u32; 3]; 3]; TRANSPORT_STEP_COUNT] = [
     // straight on: along z, with another length, among zeros of both signs, oblique
     [
         [0x00000000, 0x00000000, 0x3F800000],

@@ -5,9 +5,14 @@ mod cases;
 ghost use Prim.Native.Nat.{_≤_};
 ghost use lib.ListN.{length};
 ghost use Rattle.io.specs.Counts.{Counts};
+use crate::cases::FIRST_FRAME_COUNT;
 use crate::cases::FIRST_FRAMES;
+use crate::cases::LINE_COUNT;
+use crate::cases::ROOT_COUNT;
 use crate::cases::ROOTS;
+use crate::cases::TRANSPORT_STEP_COUNT;
 use crate::cases::TRANSPORT_STEPS;
+use crate::cases::TURN_COUNT;
 use crate::cases::TURNS;
 use float32::from_word;
 use float32::root;
@@ -46,19 +51,6 @@ fn put_root(out: &mut [u8], at: usize, x: u32) -> usize
     put_words(out, next, &[x, r], b'\n')
 }
 
-fn put_roots(out: &mut [u8]) -> usize
-    ensures { λ r. ⌜ Counts r (now (out .exit)) ⌝ }
-{
-    let cases = ROOTS;
-    let mut at = 0;
-    let mut i = 0;
-    while i < cases.len() {
-        at = put_root(out, at, cases[i]);
-        i += 1;
-    }
-    at
-}
-
 fn put_turn(out: &mut [u8], at: usize, c: [u32; 2]) -> usize
     requires { ⌜ at ≤ length (now out) ⌝ }
     ensures { λ r. ⌜ r ≤ length (now (out .exit)) ⌝ }
@@ -69,19 +61,6 @@ fn put_turn(out: &mut [u8], at: usize, c: [u32; 2]) -> usize
     put_words(out, next, &[to_word(d.cos), to_word(d.sin)], b'\n')
 }
 
-fn put_turns(out: &mut [u8]) -> usize
-    ensures { λ r. ⌜ Counts r (now (out .exit)) ⌝ }
-{
-    let cases = TURNS;
-    let mut at = 0;
-    let mut i = 0;
-    while i < cases.len() {
-        at = put_turn(out, at, cases[i]);
-        i += 1;
-    }
-    at
-}
-
 fn put_first_frame(out: &mut [u8], at: usize, v: [u32; 3]) -> usize
     requires { ⌜ at ≤ length (now out) ⌝ }
     ensures { λ r. ⌜ r ≤ length (now (out .exit)) ⌝ }
@@ -90,19 +69,6 @@ fn put_first_frame(out: &mut [u8], at: usize, v: [u32; 3]) -> usize
     let next = put_name(out, at, b"first_frame");
     let next = put_triple(out, next, v, b' ');
     put_triple(out, next, words(frame.ex), b'\n')
-}
-
-fn put_first_frames(out: &mut [u8]) -> usize
-    ensures { λ r. ⌜ Counts r (now (out .exit)) ⌝ }
-{
-    let cases = FIRST_FRAMES;
-    let mut at = 0;
-    let mut i = 0;
-    while i < cases.len() {
-        at = put_first_frame(out, at, cases[i]);
-        i += 1;
-    }
-    at
 }
 
 // Both segments are normalised, the frame is taken as it is.
@@ -123,27 +89,47 @@ fn put_transport_step(out: &mut [u8], at: usize, c: [[u32; 3]; 3]) -> usize
     put_triple(out, next, words(frame.ex), b'\n')
 }
 
-fn put_transport_steps(out: &mut [u8]) -> usize
+// Line i: the roots come first, then the turns, the first frames and the transport steps.
+fn put_line(out: &mut [u8], at: usize, i: usize) -> usize
+    requires { ⌜ at ≤ length (now out) ⌝ }
+    ensures { λ r. ⌜ r ≤ length (now (out .exit)) ⌝ }
+{
+    if i < ROOT_COUNT {
+        let cases = ROOTS;
+        return put_root(out, at, cases[i]);
+    }
+    let i = i - ROOT_COUNT;
+    if i < TURN_COUNT {
+        let cases = TURNS;
+        return put_turn(out, at, cases[i]);
+    }
+    let i = i - TURN_COUNT;
+    if i < FIRST_FRAME_COUNT {
+        let cases = FIRST_FRAMES;
+        return put_first_frame(out, at, cases[i]);
+    }
+    let i = i - FIRST_FRAME_COUNT;
+    if i < TRANSPORT_STEP_COUNT {
+        let cases = TRANSPORT_STEPS;
+        return put_transport_step(out, at, cases[i]);
+    }
+    at
+}
+
+fn put_lines(out: &mut [u8]) -> usize
     ensures { λ r. ⌜ Counts r (now (out .exit)) ⌝ }
 {
-    let cases = TRANSPORT_STEPS;
     let mut at = 0;
     let mut i = 0;
-    while i < cases.len() {
-        at = put_transport_step(out, at, cases[i]);
+    while i < LINE_COUNT {
+        at = put_line(out, at, i);
         i += 1;
     }
     at
 }
 
 fn main() {
-    let mut text = io::buffer();
-    let n = put_roots(&mut text);
-    io::write_all(1, &text[..n]);
-    let n = put_turns(&mut text);
-    io::write_all(1, &text[..n]);
-    let n = put_first_frames(&mut text);
-    io::write_all(1, &text[..n]);
-    let n = put_transport_steps(&mut text);
+    let mut text = io::large_buffer();
+    let n = put_lines(&mut text);
     io::write_all(1, &text[..n]);
 }

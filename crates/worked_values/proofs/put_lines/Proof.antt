@@ -1,29 +1,23 @@
--- Each turn of the loop puts the line of one turn, within the buffer.
+-- Each turn of the loop puts one line, within the buffer. Assumes nothing.
 use mathlib.Core.Path.{_≡_}
 use Prim.Native.Nat.{_-_, _≤_}
 use native.Mathlib.Omega.{arith}
 use borrow.Author.Needs.{needs}
 use lib.ListN.{length, length-take}
-use Rattle.worked_values.proofs.put_turns.Statement.{statement}
-use Rattle.worked_values.proofs.put_turns.Tie as tie
+use Rattle.worked_values.proofs.put_lines.Statement.{statement}
+use Rattle.worked_values.proofs.put_lines.Tie as tie
 
 abbrev Inv-loop : tie.InvT-loop
-Inv-loop out₀ cases at₀ i₀ out at i = (i ≤ 45) × (at ≤ length out) × (length out ≡ length out₀)
+Inv-loop out₀ at₀ i₀ out at i = (i ≤ 165) × (at ≤ length out) × (length out ≡ length out₀)
 
 abbrev μ-loop : tie.MeasureT-loop
-μ-loop out₀ cases at₀ i₀ out at i = 45 - i
+μ-loop out₀ at₀ i₀ out at i = 165 - i
 
 loop-holds : tie.Need-loop-holds Inv-loop μ-loop
 loop-holds c = omega arith
 
-mul-put-turn : tie.Need-mul-put-turn Inv-loop μ-loop
-mul-put-turn c = search needs
-
-array-copy-out-put-turn : tie.Need-array-copy-out-put-turn Inv-loop μ-loop
-array-copy-out-put-turn c = search needs
-
-put-turn-requires : tie.Need-put-turn-requires Inv-loop μ-loop
-put-turn-requires c κs = search needs
+put-line-requires : tie.Need-put-line-requires Inv-loop μ-loop
+put-line-requires c κs = search needs
 
 add-i : tie.Need-add-i Inv-loop μ-loop
 add-i c = search needs
@@ -40,16 +34,14 @@ same-length c = search needs
 returns : tie.Need-returns Inv-loop μ-loop
 returns c = simp length-take (omega arith)
 
-pub put-turns-spec : {M : Type 1} → statement M
-put-turns-spec =
+pub put-lines-spec : {M : Type 1} → statement M
+put-lines-spec =
     tie.close
     (tie.spec
     Inv-loop
     μ-loop
     loop-holds
-    mul-put-turn
-    array-copy-out-put-turn
-    put-turn-requires
+    put-line-requires
     add-i
     loop-less
     loop-again
