@@ -91,8 +91,12 @@ fn lists_are_del_mshs() {
     println!("{} bodies compared with del-msh", bodies.len());
 }
 
+/// Each body once, though the three parts overlap.
 fn all_bodies() -> Vec<Body> {
-    [bodies::small(), bodies::at_limits(), bodies::anywhere(200)].concat()
+    let mut all = [bodies::small(), bodies::at_limits(), bodies::anywhere(200)].concat();
+    all.sort_unstable();
+    all.dedup();
+    all
 }
 
 /// The source's list; its open curves have one vertex more than segments.
@@ -136,7 +140,7 @@ const SIZES: [u32; 14] = [
 fn sizes_outside_are_refused() {
     let mut bodies = bodies::combinations(&SIZES, &SIZES, &SIZES);
     bodies.retain(|body| !body.is_permitted());
-    // Long enough for every size just outside 3 divisions, so that only the size can be the reason.
+    // Long enough for the list of each body of few divisions, so that its sizes alone are the reason.
     let before = garbage(90_000);
     for &body in &bodies {
         compare_refused(body, 0, &before);

@@ -2,7 +2,7 @@
 
 use togbefulo_tests::{patterns, root_comparison::compare};
 
-/// Every 13th pattern meets each binade of both signs 645,000 times.
+/// Every 13th pattern meets each binade of both signs some 645,000 times.
 const STEP: u32 = 13;
 
 #[test]

@@ -8,7 +8,7 @@ use togbefulo_tests::{
 };
 
 #[test]
-fn turns_of_quarters_and_eighths() {
+fn turns_of_quarters() {
     let samples = [
         (0, 4, [0x3F800000, 0x00000000]),
         (1, 4, [0x80000000, 0x3F800000]),

@@ -13,7 +13,7 @@ use Rattle.surface.specs.declared.caps.End.{End}
 use Rattle.surface.specs.declared.caps.End.the-variants.{Bottom, Top}
 use Rattle.surface.specs.declared.quads.Split.the-variants.{Capped}
 use Rattle.surface.proofs.Chains.{after-lt}
-use Rattle.edges.specs.Edges.{Edge, _⟶_, reverse, edges, same, total, count, isZero, NoneTwice, AllMatched, Between, Within}
+use Rattle.edges.specs.Edges.{Edge, _⟶_, reverse, edges, same, total, count, isZero, NoneTwice, AllMatched, Inside, Within}
 use Rattle.edges.proofs.Zero.{isZero-yes}
 use Rattle.edges.proofs.Totals.{total-edges, within-append, within-blocks, within-widen}
 use Rattle.edges.proofs.Chains.{chain-turn, before, corner, corner-lt}
@@ -164,16 +164,16 @@ module _ (n S first : ℕ) where
     round end = cap-round n (pole end) (rim end) hn (pole-off end) end
 
     -- a pole is no vertex of the grid
-    off-grid : (end : End) (v : ℕ) → Between (first + 1) (first + 1 + (S + 1) * n) v → pole end ≢ v
+    off-grid : (end : End) (v : ℕ) → Inside (first + 1) (first + 1 + (S + 1) * n) v → pole end ≢ v
     off-grid Bottom v h = omega arith
     off-grid Top v h = omega arith
 
-    grid-leaves : (g i s : ℕ) → g < S → i < n → s < 6 → Between (first + 1) (first + 1 + (S + 1) * n) (leaves (at g i s))
+    grid-leaves : (g i s : ℕ) → g < S → i < n → s < 6 → Inside (first + 1) (first + 1 + (S + 1) * n) (leaves (at g i s))
     grid-leaves g i s hg hi hs =
         let t = patternOf Capped .tail s in
         in-grid Capped Open S Closed n (first + 1) (corner Open S (t .0) g) (corner Closed n (t .1) i) (corner-lt Open S (t .0) g hg) (corner-lt Closed n (t .1) i hi)
 
-    grid-reaches : (g i s : ℕ) → g < S → i < n → s < 6 → Between (first + 1) (first + 1 + (S + 1) * n) (reaches (at g i s))
+    grid-reaches : (g i s : ℕ) → g < S → i < n → s < 6 → Inside (first + 1) (first + 1 + (S + 1) * n) (reaches (at g i s))
     grid-reaches g i s hg hi hs =
         let h = patternOf Capped .head s in
         in-grid Capped Open S Closed n (first + 1) (corner Open S (h .0) g) (corner Closed n (h .1) i) (corner-lt Open S (h .0) g hg) (corner-lt Closed n (h .1) i hi)
@@ -268,7 +268,7 @@ module _ (n S first : ℕ) where
 
   -- ---- no index outside
 
-  cap-within : (end : End) (v w pole rim : ℕ) → Between v w pole → v ≤ rim → rim + n ≤ w → Within v w (capTriangles end n pole rim)
+  cap-within : (end : End) (v w pole rim : ℕ) → Inside v w pole → v ≤ rim → rim + n ≤ w → Within v w (capTriangles end n pole rim)
   cap-within Bottom v w pole rim hp l u = within-blocks v w n _ (λ i h. (hp, omega arith, omega (arith, after-lt Closed n i h), tt))
   cap-within Top v w pole rim hp l u = within-blocks v w n _ (λ i h. (hp, omega (arith, after-lt Closed n i h), omega arith, tt))
 

@@ -14,7 +14,7 @@ use Rattle.surface.specs.declared.grid.Chain.{Chain}
 use Rattle.surface.specs.declared.quads.Split.{Split}
 use Rattle.surface.specs.declared.quads.Split.the-variants.{Capped, Torus, Tube, Ribbon}
 use Rattle.surface.proofs.Chains.{after-lt}
-use Rattle.edges.specs.Edges.{Edge, reverse, edges, same, total, count, isZero, lacks, unmatched, NoneTwice, Between, Within, leastSteps, ends}
+use Rattle.edges.specs.Edges.{Edge, reverse, edges, same, total, count, isZero, lacks, unmatched, NoneTwice, Inside, Within, leastSteps, ends}
 use Rattle.edges.proofs.Zero.{isZero-pos}
 use Rattle.edges.proofs.Sum.{sum, sum-cong}
 use Rattle.edges.proofs.Totals.{total-blocks, within-blocks}
@@ -34,7 +34,7 @@ quad-edges Tube along m round n base g i f = omega arith
 quad-edges Ribbon along m round n base g i f = omega arith
 
 -- every vertex of a quad is one of the grid
-quad-within : (split : Split) (v w a b d e : ℕ) → Between v w a → Between v w b → Between v w d → Between v w e → Within v w (quadOf split a b d e)
+quad-within : (split : Split) (v w a b d e : ℕ) → Inside v w a → Inside v w b → Inside v w d → Inside v w e → Within v w (quadOf split a b d e)
 quad-within Capped v w a b d e ha hb hd he = (he, hb, ha, (hd, he, ha, tt))
 quad-within Torus v w a b d e ha hb hd he = (ha, hb, hd, (he, hd, hb, tt))
 quad-within Tube v w a b d e ha hb hd he = (ha, he, hb, (ha, hd, he, tt))
@@ -54,7 +54,7 @@ module _ (split : Split) (along : Chain) (m : ℕ) (round : Chain) (n : ℕ) (ba
       total-blocks f n (λ i. quadOf split (vertex round n base g i) (vertex round n base g (afterOf round n i)) (vertex round n base (afterOf along m g) i) (vertex round n base (afterOf along m g) (afterOf round n i)))
       ∙ sum-cong n _ _ (λ i hi. quad-edges split along m round n base g i f))
 
-  pub in-grid : (r c : ℕ) → r < pointsOf along m → c < pointsOf round n → Between base (base + pointsOf along m * pointsOf round n) (vertex round n base r c)
+  pub in-grid : (r c : ℕ) → r < pointsOf along m → c < pointsOf round n → Inside base (base + pointsOf along m * pointsOf round n) (vertex round n base r c)
   in-grid r c hr hc = omega (arith, digits-lt hr hc)
 
   pub grid-within : Within base (base + pointsOf along m * pointsOf round n) list

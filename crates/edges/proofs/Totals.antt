@@ -17,10 +17,10 @@ both-le true true = omega arith
 both-le true false = omega arith
 both-le false b = omega arith
 
-both-true : (a b : Bool) → 1 ≤ both a b → T a × T b
-both-true true true h = (tt, tt)
-both-true true false h = absurd (omega arith)
-both-true false b h = absurd (omega arith)
+both-hold : (a b : Bool) → 1 ≤ both a b → T a × T b
+both-hold true true h = (tt, tt)
+both-hold true false h = absurd (omega arith)
+both-hold false b h = absurd (omega arith)
 
 both-one : (a b : Bool) → T a → T b → both a b ≡ 1
 both-one true true t u = refl
@@ -38,7 +38,7 @@ same-of e f p = rw (← p) (omega (arith, same-self e))
 
 pub same-eq : (e f : Edge) → 1 ≤ same e f → e ≡ f
 same-eq (a ⟶ b) (c ⟶ d) h =
-    let t = both-true (eqb a c) (eqb b d) h in
+    let t = both-hold (eqb a c) (eqb b d) h in
     let p : a ≡ c = eqb→eq a c (t .0) in
     let q : b ≡ d = eqb→eq b d (t .1) in
     cc

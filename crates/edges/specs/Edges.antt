@@ -59,15 +59,16 @@ AllMatched es = (e : Edge) → 1 ≤ count e es → 1 ≤ count (reverse e) es
 abbrev pub unmatched : List Edge → ℕ
 unmatched es = total (lacks es) es
 
--- A vertex from least on, and below end; and every index of a list so.
-abbrev pub Between : ℕ → ℕ → ℕ → Type 0
-Between least end v = (least ≤ v) × (v < end)
+-- "No index lies outside": a vertex from least on and below end, and every index of a list so.
+abbrev pub Inside : ℕ → ℕ → ℕ → Type 0
+Inside least end v = (least ≤ v) × (v < end)
 
 abbrev pub Within : ℕ → ℕ → List Triangle → Type 0
 Within least end [] = Unit {0}
-Within least end (triangle a b c ∷ ts) = Between least end a × Between least end b × Between least end c × Within least end ts
+Within least end (triangle a b c ∷ ts) = Inside least end a × Inside least end b × Inside least end c × Within least end ts
 
--- How many steps a chain has at least: a closed one of fewer than three would use an edge twice.
+-- How many steps a chain has at least. On a closed one of two the step forward and the step back lead to one point, so that edges meet their
+-- reverses that should not.
 abbrev pub leastSteps : Chain → ℕ
 leastSteps Open = 1
 leastSteps Closed = 3

@@ -14,4 +14,4 @@ pub record Near (n g : ℕ) : Type 0 where
 -- r is the pattern of the root of every x that is n * 2 ^ -149 with n * 2 ^ 149 = m * 2 ^ p, and it is not that of the infinity or a NaN
 pub record RootBits (m p r : ℕ) : Type 0 where
   pub root-of : (x : Float) (n : ℕ) → 0 < n → HasValue x false n (2 ^ 149) → n * 2 ^ 149 ≡ m * 2 ^ p → ofBits binary32 r ≡ rootOf x
-  pub finite : r < 2139095040
+  pub finite : r < 0x7F80_0000

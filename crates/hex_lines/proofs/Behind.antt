@@ -1,33 +1,19 @@
 -- Texts put one behind the other are one text. Assumes nothing.
-use mathlib.Core.Path.{_≡_, refl, sym, ap, subst, _∙_}
+use mathlib.Core.Path.{_≡_, sym, ap, subst, _∙_}
 use mathlib.Core.List.{List, [], _∷_, _++_}
-use Prim.Native.Nat.{ℕ, zero, suc, _+_, _≤_, _<_}
-use native.Mathlib.Nat.{not-suc-le-zero, le-of-suc-le-suc}
+use Prim.Native.Nat.{ℕ, _+_, _≤_, _<_}
 use native.Mathlib.Numerals.{add-one}
 use native.Mathlib.Omega.{arith, min-cases}
 use lib.ListN.{length, set, length-append}
-use Rattle.laws.specs.Overwrite.{overwrite, overwrite-none, overwrite-append, length-overwrite}
+use Rattle.laws.specs.Overwrite.{overwrite, overwrite-none, overwrite-append, overwrite-past, one-store, length-overwrite}
 use Rattle.laws.specs.Blocks.{blocks}
 use Rattle.hex_lines.specs.Put.{Put}
-
--- a write of one element is a store
-overwrite-one : (at b : ℕ) (old : List ℕ) → set old at b ≡ overwrite at (b ∷ []) old
-overwrite-one zero b [] = refl
-overwrite-one zero b (x ∷ old) = ap (λ (l : List ℕ). b ∷ l) (sym (overwrite-none zero old))
-overwrite-one (suc at) b [] = refl
-overwrite-one (suc at) b (x ∷ old) = ap (λ (l : List ℕ). x ∷ l) (overwrite-one at b old)
-
--- past the end nothing is written
-overwrite-past : (at : ℕ) (new old : List ℕ) → length old ≤ at → old ≡ overwrite at new old
-overwrite-past at new [] h = refl
-overwrite-past zero new (x ∷ old) h = absurd (not-suc-le-zero h)
-overwrite-past (suc at) new (x ∷ old) h = ap (λ (l : List ℕ). x ∷ l) (overwrite-past at new old (le-of-suc-le-suc h))
 
 pub put-nothing : (at : ℕ) (old : List ℕ) → Put [] at old at old
 put-nothing at old = record { written = sym (overwrite-none at old); place = omega arith }
 
 pub put-one : (b at : ℕ) (old : List ℕ) → at < length old → Put (b ∷ []) at old (at + 1) (set old at b)
-put-one b at old h = record { written = overwrite-one at b old; place = omega arith }
+put-one b at old h = record { written = one-store at b old; place = omega arith }
 
 pub put-none : (b at : ℕ) (old : List ℕ) → length old ≤ at → Put (b ∷ []) at old at old
 put-none b at old h = record { written = overwrite-past at (b ∷ []) old h; place = omega arith }

@@ -4,7 +4,7 @@ use mathlib.Core.Bool.{true, _&&_}
 use Prim.Native.Nat.{ℕ, _+_, _*_, _≤_}
 use borrow.Author.Tests.{leb-true}
 use lib.Dec.{leb}
-use Rattle.laws.specs.Tests.{both-true}
+use Rattle.laws.specs.Conjunction.{both-true}
 use Rattle.kinds.specs.Limits.{between, segmentsPermitted, loopPermitted, divisionsPermitted, longitudesPermitted, layersPermitted}
 use Rattle.kinds.specs.Kinds.{permitted}
 use Rattle.kinds.specs.declared.topology.Topology.{Topology}

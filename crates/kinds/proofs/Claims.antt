@@ -2,7 +2,7 @@
 use mathlib.Core.Path.{_≡_, refl, sym, ap, _∙_, subst}
 use mathlib.Core.Bool.{true}
 use mathlib.Core.List.{List, [], _∷_, _++_}
-use Prim.Native.Nat.{ℕ, _+_, _-_, _*_, _≤_}
+use Prim.Native.Nat.{ℕ, suc, _+_, _-_, _*_, _≤_}
 use native.Mathlib.Nat.{zero-add}
 use native.Mathlib.Omega.{arith}
 use lib.ListN.{length, length-append}
@@ -29,39 +29,44 @@ shift-none : (ts : List Triangle) → shift 0 ts ≡ ts
 shift-none [] = refl
 shift-none (triangle a b c ∷ ts) = λ i. triangle (zero-add a i) (zero-add b i) (zero-add c i) ∷ shift-none ts i
 
--- A list of triangles, by what is claimed of it: all indices below v, no edge twice, u edges unmatched.
-record Listed (v u : ℕ) (ts : List Triangle) : Type 0 where
-  inside : Within 0 v ts
+shift-length : (first : ℕ) (ts : List Triangle) → length (shift first ts) ≡ length ts
+shift-length first [] = refl
+shift-length first (triangle a b c ∷ ts) = ap suc (shift-length first ts)
+
+-- A list of triangles, by what is claimed of it: v vertices numbered from `first` on, no edge twice, u edges unmatched.
+record Listed (first v u : ℕ) (ts : List Triangle) : Type 0 where
+  inside : Within first (first + v) ts
   once : NoneTwice (edges ts)
   open-edges : unmatched (edges ts) ≡ u
 
--- the list of a surface whose first vertex is 0 is the local list
-local : (v u : ℕ) (ts ss : List Triangle) → shift 0 ts ≡ ss → Listed v u ss → Listed v u ts
-local v u ts ss e l = subst (λ (x : List Triangle). Listed v u x) (sym e ∙ shift-none ts) l
-
-grid-listed : (split : Split.Split) (along round : Chain) (m n v u : ℕ) → leastSteps along ≤ m → leastSteps round ≤ n
-    → 0 + pointsOf along m * pointsOf round n ≡ v → n * ends along + m * ends round ≡ u → Listed v u (gridTriangles split along m round n 0)
-grid-listed split along round m n v u hm hn ev eu = record {
-  inside = subst (λ (x : ℕ). Within 0 x (gridTriangles split along m round n 0)) ev (grid-within split along m round n 0);
-  once = grid-once split along m round n 0 hm hn;
-  open-edges = grid-unmatched split along m round n 0 hm hn ∙ eu;
+grid-listed : (split : Split.Split) (along round : Chain) (m n first v u : ℕ) → leastSteps along ≤ m → leastSteps round ≤ n
+    → pointsOf along m * pointsOf round n ≡ v → n * ends along + m * ends round ≡ u → Listed first v u (gridTriangles split along m round n first)
+grid-listed split along round m n first v u hm hn ev eu = record {
+  inside = subst (λ (x : ℕ). Within first (first + x) (gridTriangles split along m round n first)) ev (grid-within split along m round n first);
+  once = grid-once split along m round n first hm hn;
+  open-edges = grid-unmatched split along m round n first hm hn ∙ eu;
 }
 
-ribbon-listed : (m : ℕ) → 1 ≤ m → Listed (2 * (m + 1)) (2 * m + 2) (ribbonTriangles m)
-ribbon-listed m hm = local _ _ (ribbonTriangles m) _ (ribbon-list m 0) (grid-listed Splits.Ribbon Open Open m 1 _ _ hm (omega arith) (omega arith) (omega arith))
+module _ (first : ℕ) where
+  -- a body's list is that of its surface
+  as-listed : (v u : ℕ) {ts ss : List Triangle} → ts ≡ ss → Listed first v u ss → Listed first v u ts
+  as-listed v u e l = subst (λ (x : List Triangle). Listed first v u x) (sym e) l
 
-tube-listed : (n m : ℕ) → 3 ≤ n → 1 ≤ m → Listed (n * (m + 1)) (2 * n) (tubeTriangles n m)
-tube-listed n m hn hm = local _ _ (tubeTriangles n m) _ (tube-list n m 0) (grid-listed Splits.Tube Open Closed m n _ _ hm hn (omega arith) (omega arith))
+  ribbon-listed : (m : ℕ) → 1 ≤ m → Listed first (2 * (m + 1)) (2 * m + 2) (shift first (ribbonTriangles m))
+  ribbon-listed m hm = as-listed _ _ (ribbon-list m first) (grid-listed Splits.Ribbon Open Open m 1 first _ _ hm (omega arith) (omega arith) (omega arith))
 
-torus-listed : (n N : ℕ) → 3 ≤ n → 3 ≤ N → Listed (N * n) 0 (torusTriangles n N)
-torus-listed n N hn hN = local _ _ (torusTriangles n N) _ (torus-list n N 0) (grid-listed Splits.Torus Closed Closed N n _ _ hN hn (omega arith) (omega arith))
+  tube-listed : (n m : ℕ) → 3 ≤ n → 1 ≤ m → Listed first (n * (m + 1)) (2 * n) (shift first (tubeTriangles n m))
+  tube-listed n m hn hm = as-listed _ _ (tube-list n m first) (grid-listed Splits.Tube Open Closed m n first _ _ hm hn (omega arith) (omega arith))
 
-closed-listed : (n S : ℕ) → 3 ≤ n → 1 ≤ S → Listed (n * (S + 1) + 2) 0 (closedTriangles n S)
-closed-listed n S hn hS = local _ _ (closedTriangles n S) _ (closed-list n S 0) (record {
-  inside = subst (λ (x : ℕ). Within 0 x (capped n S 0)) (omega arith) (capped-within n S 0);
-  once = capped-once n S 0 hn hS;
-  open-edges = of-matched (edges (capped n S 0)) (capped-matched n S 0 hn hS);
-})
+  torus-listed : (n N : ℕ) → 3 ≤ n → 3 ≤ N → Listed first (N * n) 0 (shift first (torusTriangles n N))
+  torus-listed n N hn hN = as-listed _ _ (torus-list n N first) (grid-listed Splits.Torus Closed Closed N n first _ _ hN hn (omega arith) (omega arith))
+
+  closed-listed : (n S : ℕ) → 3 ≤ n → 1 ≤ S → Listed first (n * (S + 1) + 2) 0 (shift first (closedTriangles n S))
+  closed-listed n S hn hS = as-listed _ _ (closed-list n S first) (record {
+    inside = subst (λ (x : ℕ). Within first x (capped n S first)) (omega arith) (capped-within n S first);
+    once = capped-once n S first hn hS;
+    open-edges = of-matched (edges (capped n S first)) (capped-matched n S first hn hS);
+  })
 
 -- ---- how many triangles
 
@@ -88,28 +93,35 @@ closed-kinds (Capsule k) c = refl
 closed-kinds (Torus k) c = refl
 closed-kinds (ClosedCylinder k) c = refl
 
-claims-of : (t : Topology) → Listed (vertexCount t) (openEdges t) (trianglesOf t) → length (trianglesOf t) ≡ triangleCount t → Claims t
-claims-of t l n = record {
-  inside = l .inside;
-  once = l .once;
-  closed = λ c. matched-of (edges (trianglesOf t)) (l .open-edges ∙ closed-kinds t c);
-  open-edges = l .open-edges;
-  triangles = n;
-}
+listed : (t : Topology) → Enough t → (first : ℕ) → Listed first (vertexCount t) (openEdges t) (shift first (trianglesOf t))
+listed (Ribbon k) h first = ribbon-listed first (k .segments) h
+listed (Tube k) h first = tube-listed first (k .divisions) (k .segments) (h .0) (h .1)
+listed (Capsule k) h first = closed-listed first (k .divisions) (layersOf k) (h .0) (omega arith)
+listed (Torus k) h first = torus-listed first (k .divisions) (k .vertices) (h .0) (h .1)
+listed (ClosedCylinder k) h first = closed-listed first (k .divisions) (k .layers) (h .0) (h .1)
 
-pub claims : (t : Topology) → Enough t → Claims t
-claims (Ribbon k) h =
-    claims-of (Ribbon k) (ribbon-listed (k .segments) h) (omega (arith, length-blocks 2 (k .segments) ribbonQuad (λ j l. refl)))
-claims (Tube k) h =
-    claims-of (Tube k) (tube-listed (k .divisions) (k .segments) (h .0) (h .1))
-    (omega (arith, rows-length (k .segments) (k .divisions) 2 (tubeQuad (k .divisions)) (λ g i. refl)))
-claims (Capsule k) h =
-    claims-of (Capsule k) (closed-listed (k .divisions) (layersOf k) (h .0) (omega arith)) (closed-length (k .divisions) (layersOf k))
-claims (Torus k) h =
-    claims-of (Torus k) (torus-listed (k .divisions) (k .vertices) (h .0) (h .1))
-    (omega (arith, rows-length (k .vertices) (k .divisions) 2 (torusQuad (k .divisions) (k .vertices)) (λ g i. refl)))
-claims (ClosedCylinder k) h =
-    claims-of (ClosedCylinder k) (closed-listed (k .divisions) (k .layers) (h .0) (h .1)) (closed-length (k .divisions) (k .layers))
+counted : (t : Topology) → length (trianglesOf t) ≡ triangleCount t
+counted (Ribbon k) = omega (arith, length-blocks 2 (k .segments) ribbonQuad (λ j l. refl))
+counted (Tube k) = omega (arith, rows-length (k .segments) (k .divisions) 2 (tubeQuad (k .divisions)) (λ g i. refl))
+counted (Capsule k) = closed-length (k .divisions) (layersOf k)
+counted (Torus k) = omega (arith, rows-length (k .vertices) (k .divisions) 2 (torusQuad (k .divisions) (k .vertices)) (λ g i. refl))
+counted (ClosedCylinder k) = closed-length (k .divisions) (k .layers)
+
+-- of the list that `write_triangles` writes
+pub claims : (t : Topology) → Enough t → (first : ℕ) → Claims t first (shift first (trianglesOf t))
+claims t h first =
+    let l = listed t h first in
+    record {
+      inside = l .inside;
+      once = l .once;
+      closed = λ c. matched-of (edges (shift first (trianglesOf t))) (l .open-edges ∙ closed-kinds t c);
+      open-edges = l .open-edges;
+      triangles = shift-length first (trianglesOf t) ∙ counted t;
+    }
+
+-- of the local list
+pub local-claims : (t : Topology) → Enough t → Claims t 0 (trianglesOf t)
+local-claims t h = subst (λ (ts : List Triangle). Claims t 0 ts) (shift-none (trianglesOf t)) (claims t h 0)
 
 enough : (t : Topology) → Bounds t → Enough t
 enough (Ribbon k) b = b .0
@@ -118,11 +130,12 @@ enough (Capsule k) b = (b .0 .0, b .3)
 enough (Torus k) b = (b .0 .0, b .1 .0)
 enough (ClosedCylinder k) b = (b .0 .0, b .1 .0)
 
-pub permitted-claims : (t : Topology) → permitted t ≡ true → Claims t
-permitted-claims t p = claims t (enough t (bounds t p))
+-- every permitted body, local and with its first vertex added
+pub permitted-claims : (t : Topology) → permitted t ≡ true → Claims t 0 (trianglesOf t) × ((first : ℕ) → Claims t first (shift first (trianglesOf t)))
+permitted-claims t p = let h = enough t (bounds t p) in (local-claims t h, claims t h)
 
--- "A capsule of n divisions and m segments has exactly 2n(2L + m - 1) triangles."
-pub capsule-triangles : (n L m : ℕ) → 3 ≤ 2 * L + m → length (closedTriangles n (2 * L + m - 2)) ≡ 2 * n * (2 * L + m - 1)
+-- "A capsule of n divisions and m segments has exactly 2n(2L + m - 1) triangles, L being its longitude divisions."
+pub capsule-triangles : (n L m : ℕ) → 3 ≤ 2 * L + m → length (trianglesOf (Capsule (record { divisions = n; longitudes = L; segments = m }))) ≡ 2 * n * (2 * L + m - 1)
 capsule-triangles n L m h =
     let e : 2 * L + m - 2 + 1 ≡ 2 * L + m - 1 = omega arith in
     closed-length n (2 * L + m - 2) ∙ ap (λ (x : ℕ). 2 * n * x) e

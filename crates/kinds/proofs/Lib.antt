@@ -1,4 +1,4 @@
-pub mod Tests
+pub mod Answers
 pub mod Bounds
 pub mod Shift
 pub mod AsSurface

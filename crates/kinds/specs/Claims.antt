@@ -1,13 +1,15 @@
--- What demand 3 says of the edges of every body. Definitions only.
+-- What demand 3 and document 01, 'Triangle lists', say of the edges and the triangles of every body. Definitions only.
 use mathlib.Core.Path.{_≡_}
+use mathlib.Core.List.{List}
 use Prim.Native.Nat.{ℕ, _+_, _*_, _≤_}
 use lib.ListN.{length}
+use Rattle.surface.specs.Triangles.{Triangle}
 use Rattle.edges.specs.Edges.{edges, unmatched, NoneTwice, AllMatched, Within}
-use Rattle.kinds.specs.Kinds.{vertexCount, triangleCount, trianglesOf}
+use Rattle.kinds.specs.Kinds.{vertexCount, triangleCount}
 use Rattle.kinds.specs.declared.topology.Topology.{Topology}
 use Rattle.kinds.specs.declared.topology.Topology.the-variants.{Ribbon, Tube, Capsule, Torus, ClosedCylinder}
 
--- The kinds of which "every edge has its reverse".
+-- "Every edge of a capsule, closed cylinder or torus": the closed kinds.
 abbrev pub IsClosed : Topology → Type 0
 IsClosed (Ribbon k) = ⊥
 IsClosed (Tube k) = ⊥
@@ -31,14 +33,15 @@ Enough (Capsule k) = (3 ≤ k .divisions) × (3 ≤ 2 * k .longitudes + k .segme
 Enough (Torus k) = (3 ≤ k .divisions) × (3 ≤ k .vertices)
 Enough (ClosedCylinder k) = (3 ≤ k .divisions) × (1 ≤ k .layers)
 
-pub record Claims (t : Topology) : Type 0 where
-  -- no index lies outside the body
-  pub inside : Within 0 (vertexCount t) (trianglesOf t)
-  -- no directed edge is used twice
-  pub once : NoneTwice (edges (trianglesOf t))
-  -- every edge of a capsule, closed cylinder or torus has its reverse
-  pub closed : IsClosed t → AllMatched (edges (trianglesOf t))
+-- What is claimed of a list ts of the body's triangles whose first vertex is numbered `first`.
+pub record Claims (t : Topology) (first : ℕ) (ts : List Triangle) : Type 0 where
+  -- "no index lies outside it"
+  pub inside : Within first (first + vertexCount t) ts
+  -- "no directed edge is used twice"
+  pub once : NoneTwice (edges ts)
+  -- "Every edge of a capsule, closed cylinder or torus has its reverse."
+  pub closed : IsClosed t → AllMatched (edges ts)
   -- exactly so many edges are unmatched
-  pub open-edges : unmatched (edges (trianglesOf t)) ≡ openEdges t
+  pub open-edges : unmatched (edges ts) ≡ openEdges t
   -- exactly so many triangles
-  pub triangles : length (trianglesOf t) ≡ triangleCount t
+  pub triangles : length ts ≡ triangleCount t

@@ -15,7 +15,7 @@ use Rattle.kinds.specs.declared.capsule.Capsule as Capsules
 use Rattle.kinds.specs.declared.topology.Topology.{Topology}
 use Rattle.kinds.specs.declared.topology.Topology.the-variants.{Ribbon, Tube, Capsule, Torus, ClosedCylinder}
 
--- "A capsule has S = 2L + m − 2": 2L + m steps from pole to pole.
+-- "A capsule has S = 2L + m − 2": 2L + m steps from pole to pole. Of fewer than two, which no permitted capsule has, S is 0.
 abbrev pub stepsOf : Capsules.Capsule → ℕ
 stepsOf k = 2 * k .longitudes + k .segments
 
@@ -50,8 +50,8 @@ trianglesOf (Capsule k) = closedTriangles (k .divisions) (layersOf k)
 trianglesOf (Torus k) = torusTriangles (k .divisions) (k .vertices)
 trianglesOf (ClosedCylinder k) = closedTriangles (k .divisions) (k .layers)
 
--- Whether a body's triangles can be written, its vertices numbered from `first` on, into a buffer of `room` numbers: it is permitted, and
--- neither "exceed their buffer or take their total above 2^28" (3 and 4).
+-- Whether a body's triangles can be written, its vertices numbered from `first` on, into a buffer of `room` numbers: it is permitted, the
+-- vertices do not "take their total above 2^28" (of 3), and the triangles do not "exceed their buffer" (of 4). The rest of 3 and 4 is add's.
 unfoldable pub writable : Topology → ℕ → ℕ → Bool
 writable t first room = permitted t && (leb (first + vertexCount t) (2 ^ 28) && leb (3 * triangleCount t) room)
 

@@ -1,5 +1,5 @@
--- The triangle lists, as document 01, 'Triangle lists', has them: n divisions round, m curve segments, L longitude divisions in each cap,
--- N curve vertices of a torus, S layers. Definitions only.
+-- The triangle lists, as document 01, 'Triangle lists', has them: n divisions round, m curve segments, N curve vertices of a torus, S layers.
+-- Definitions only.
 use mathlib.Core.List.{List, [], _∷_, _++_}
 use Prim.Native.Nat.{ℕ, _+_, _*_, _%_}
 use Rattle.laws.specs.Blocks.{blocks}

@@ -52,7 +52,7 @@ impl Capsule {
         2 * self.longitudes as u32 + self.segments as u32
     }
 
-    // The layers of quads between the caps.
+    // The layers of quads between the caps; none where there are too few steps, so that the counts are defined for every capsule.
     fn layers(self) -> u32
         ensures { λ r. ⌜ r ≡ layersOf self ⌝ }
     {

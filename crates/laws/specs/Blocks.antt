@@ -1,4 +1,5 @@
--- A list made of blocks, one after the other, and the law of every loop that writes one. Assumes nothing.
+-- A list made of blocks, one after the other ("for j from 0", "each layer g and each i" of document 01, 'Triangle lists'), and the law of
+-- every loop that writes one. Assumes nothing.
 use mathlib.Core.Path.{_≡_, refl, sym, ap, _∙_}
 use mathlib.Core.List.{List, [], _++_}
 use Prim.Native.Nat.{ℕ, zero, suc, _+_, _*_, _<_}

@@ -1,4 +1,4 @@
 pub mod Overwrite
 pub mod Blocks
 pub mod Products
-pub mod Tests
+pub mod Conjunction

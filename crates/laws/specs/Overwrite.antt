@@ -48,10 +48,19 @@ module _ {ℓ} {A : Type ℓ} where
   overwrite-cons (suc at) v vs [] = refl
   overwrite-cons (suc at) v vs (x ∷ old) = ap (λ (r : List A). x ∷ r) (overwrite-cons at v vs old)
 
+  -- past the end nothing is written
+  pub overwrite-past : (at : ℕ) (new old : List A) → length old ≤ at → old ≡ overwrite at new old
+  overwrite-past at new [] h = refl
+  overwrite-past zero new (x ∷ old) h = absurd (not-suc-le-zero h)
+  overwrite-past (suc at) new (x ∷ old) h = ap (λ (r : List A). x ∷ r) (overwrite-past at new old (le-of-suc-le-suc h))
+
   -- stores one after the other, as straight-line code makes them
   stores : (p : ℕ) (vs old : List A) → sets old p vs ≡ overwrite p vs old
   stores p [] old = sym (overwrite-none p old)
   stores p (v ∷ vs) old = stores (suc p) vs (set old p v) ∙ overwrite-cons p v vs old
+
+  pub one-store : (p : ℕ) (v : A) (old : List A) → set old p v ≡ overwrite p (v ∷ []) old
+  one-store p v old = stores p (v ∷ []) old
 
   pub three-stores : (p : ℕ) (a b c : A) (old : List A) → set (set (set old p a) (p + 1) b) (p + 2) c ≡ overwrite p (a ∷ b ∷ c ∷ []) old
   three-stores p a b c old = simp towards-suc (stores p (a ∷ b ∷ c ∷ []) old)

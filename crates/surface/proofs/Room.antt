@@ -6,7 +6,7 @@ use native.Mathlib.Omega.{arith}
 use borrow.Author.Tests.{leb-true}
 use lib.Dec.{leb}
 use Rattle.laws.specs.Products.{row-within}
-use Rattle.laws.specs.Tests.{both-true}
+use Rattle.laws.specs.Conjunction.{both-true}
 use Rattle.surface.specs.Grid.{pointsOf}
 use Rattle.surface.specs.Whole.{chainOf, isCapped, ringCount, ringSize, gridSize, surfaceVertexCount, surfaceTriangleCount, fits, GridFits}
 use Rattle.surface.specs.declared.whole.Along.{Along}

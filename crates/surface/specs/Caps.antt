@@ -8,7 +8,7 @@ use Rattle.surface.specs.declared.grid.Chain.the-variants.{Closed}
 use Rattle.surface.specs.declared.caps.End.{End}
 use Rattle.surface.specs.declared.caps.End.the-variants.{Bottom, Top}
 
--- "First n bottom triangles (0, ring 0 at i, at i + 1)" and "then (top, (S, i + 1), (S, i))".
+-- "First n bottom triangles (0, ring 0 at i, at i + 1)." "Then (top, (S, i + 1), (S, i))."
 abbrev pub capTriangle : End → ℕ → ℕ → ℕ → Triangle
 capTriangle Bottom pole here next = triangle pole here next
 capTriangle Top pole here next = triangle pole next here

@@ -9,7 +9,7 @@ use Rattle.surface.specs.declared.quads.Split.{Split}
 use Rattle.surface.specs.declared.grid.Chain.{Chain}
 use Rattle.surface.specs.declared.grid.Chain.the-variants.{Open, Closed}
 
--- The point after point i on a chain of n steps: "ring indices i and i + 1 wrap at n".
+-- The point after point i on a chain of n steps. "Ring indices i and i + 1 wrap at n."
 abbrev pub afterOf : Chain → ℕ → ℕ → ℕ
 afterOf Open n i = i + 1
 afterOf Closed n i = (i + 1) % n

@@ -53,8 +53,8 @@ surfaceVertexCount s = gridSize s + cond (isCapped (s .along)) 2 0
 unfoldable pub surfaceTriangleCount : Surface → ℕ
 surfaceTriangleCount s = 2 * (s .rows * s .columns) + cond (isCapped (s .along)) (2 * s .columns) 0
 
--- Whether a surface can be written: each of its vertices is numbered below 2 ^ 28, and its triangles have room ("exceed their buffer or take
--- their total above 2^28", 'Refused, and through whom').
+-- Whether a surface can be written: its vertices do not "take their total above 2^28", and its triangles do not "exceed their buffer"
+-- ('Refused, and through whom', of 3 and of 4).
 unfoldable pub fits : Surface → ℕ → ℕ → Bool
 fits s first room = leb (first + surfaceVertexCount s) (2 ^ 28) && leb (3 * surfaceTriangleCount s) room
 

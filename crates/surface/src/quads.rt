@@ -5,7 +5,7 @@ ghost use Rattle.laws.specs.Overwrite.{overwrite};
 ghost use Rattle.surface.specs.Triangles.{rows, rowOf, rowsOf};
 ghost use Rattle.surface.specs.Quads.{quadOf};
 
-// How a quad is cut into its two triangles: each is named after the body whose list has it.
+// How a quad is cut into its two triangles, named after the bodies whose lists have it; capsule and closed cylinder are the capped ones.
 pub enum Split {
     Capped,
     Torus,

@@ -1,5 +1,5 @@
 -- The direction of k/n turn (document 01, 'Arithmetic'). Definitions only.
-use Prim.Native.Nat.{ℕ, _-_, _*_, _/_, _%_}
+use Prim.Native.Nat.{ℕ, _-_, _*_, _/_, _%_, _^_}
 use mathlib.Core.Bool.{_&&_, cond}
 use mathlib.Core.List.{[], _∷_}
 use lib.ListN.{getD}
@@ -61,4 +61,4 @@ directionOf k n =
 
 -- turn(k, n), "0 ≤ k < n ≤ 2^24". For other k and n, of which the paper says nothing, the direction of no turn.
 unfoldable pub turnOf : ℕ → ℕ → Direction
-turnOf k n = cond (ltb k n && leb n 16777216) (directionOf k n) (pair (whole 1) (whole 0))
+turnOf k n = cond (ltb k n && leb n (2 ^ 24)) (directionOf k n) (pair (whole 1) (whole 0))

@@ -6,6 +6,7 @@ pub const TURN_COUNT: usize = 45;
 pub const FIRST_FRAME_COUNT: usize = 31;
 
 pub const TRANSPORT_STEP_COUNT: usize = 25;
+
 pub const LINE_COUNT: usize = ROOT_COUNT + TURN_COUNT + FIRST_FRAME_COUNT + TRANSPORT_STEP_COUNT;
 
 // Bits of the numbers whose roots are worked out.

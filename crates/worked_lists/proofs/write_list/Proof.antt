@@ -7,7 +7,7 @@ use borrow.Author.Needs.{needs}
 use borrow.Author.Tests.{leb-true}
 use lib.Dec.{leb}
 use lib.ListN.{length-take}
-use Rattle.laws.specs.Tests.{both-true}
+use Rattle.laws.specs.Conjunction.{both-true}
 use Rattle.kinds.specs.Kinds.{permitted, vertexCount, triangleCount, writable}
 use Rattle.kinds.specs.declared.topology.Topology.{Topology}
 use Rattle.worked_lists.proofs.write_list.Statement.{statement}

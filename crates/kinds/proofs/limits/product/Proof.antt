@@ -1,9 +1,6 @@
 -- A product of 16 and 32 binary digits has 48 at most. Assumes nothing.
--- A product of 16 and 32 binary digits has 48 at most. Assumes nothing.
 use Prim.Native.Nat.{_*_, _≤_}
--- A product of 16 and 32 binary digits has 48 at most. Assumes nothing.
 use mathlib.Core.Path.{refl}
-use Prim.Native.Nat.{_*_}
 use native.Mathlib.Nat.{mul-le-mul}
 use native.Mathlib.Omega.{arith}
 use Rattle.kinds.proofs.limits.product.Statement.{statement}

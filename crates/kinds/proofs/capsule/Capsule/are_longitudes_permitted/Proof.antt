@@ -3,7 +3,6 @@ use mathlib.Core.Path.{sym, ap, _∙_}
 use mathlib.Core.Bool.{Bool, _&&_}
 use Prim.Native.Nat.{_+_, _*_}
 use lib.Dec.{leb}
--- Each answer is what `longitudesPermitted` computes to under the tests that led there. Assumes nothing.
 use borrow.Author.Tests.{le-leb, lt-leb}
 use borrow.Author.Needs.{needs}
 use Rattle.kinds.proofs.capsule.Capsule.are_longitudes_permitted.Statement.{statement}

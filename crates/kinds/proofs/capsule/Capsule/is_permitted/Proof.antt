@@ -1,5 +1,5 @@
 -- Three tests, one behind the other. Assumes nothing.
-use Rattle.kinds.proofs.Tests.{passed, failed}
+use Rattle.kinds.proofs.Answers.{passed, failed}
 use Rattle.kinds.specs.Limits.{segmentsPermitted, longitudesPermitted}
 use mathlib.Core.Bool.{_&&_}
 use mathlib.Core.Path.{sym, _∙_}

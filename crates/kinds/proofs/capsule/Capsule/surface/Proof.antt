@@ -2,7 +2,6 @@
 use native.Mathlib.Omega.{arith}
 use Rattle.kinds.specs.declared.topology.Topology.the-variants.{Capsule}
 use Rattle.kinds.proofs.Bounds.{bounds}
--- A permitted capsule has fewer than 2^16 layers. Assumes nothing.
 use borrow.Author.Needs.{needs}
 use Rattle.kinds.proofs.capsule.Capsule.surface.Statement.{statement}
 use Rattle.kinds.proofs.capsule.Capsule.surface.Tie as tie

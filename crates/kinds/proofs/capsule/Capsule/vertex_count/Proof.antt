@@ -1,8 +1,6 @@
 -- The product is of the divisions and of one more than the layers. Assumes nothing.
 use mathlib.Core.Path.{_≡_, ap, _∙_}
 use Rattle.kinds.specs.Kinds.{layersOf}
--- The product is of the divisions and the layers, one more. Assumes nothing.
-use mathlib.Core.Path.{ap, _∙_}
 use Prim.Native.Nat.{ℕ, _+_, _*_}
 use native.Mathlib.Omega.{arith}
 use borrow.Author.Needs.{needs}

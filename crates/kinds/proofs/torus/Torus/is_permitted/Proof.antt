@@ -1,5 +1,5 @@
 -- Two tests, one behind the other. Assumes nothing.
-use Rattle.kinds.proofs.Tests.{passed, failed}
+use Rattle.kinds.proofs.Answers.{passed, failed}
 use Rattle.kinds.specs.Limits.{loopPermitted}
 use borrow.Author.Needs.{needs}
 use Rattle.kinds.proofs.torus.Torus.is_permitted.Statement.{statement}

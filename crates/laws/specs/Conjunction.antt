@@ -1,4 +1,4 @@
--- Tests that both hold. Assumes nothing.
+-- Where `&&` is true, both tests are. Assumes nothing.
 use mathlib.Core.Path.{_≡_, refl, sym, subst}
 use mathlib.Core.Bool.{Bool, true, false, _&&_}
 use lib.Dec.{T}
