@@ -40,7 +40,8 @@ goes chain n true false i = refl
 goes chain n true true i = refl
 
 -- two edges of quads with the same ends make the same step
-one-step : (chain : Chain) (n : ℕ) → leastSteps chain ≤ n → (x y x′ y′ : Bool) (i i′ : ℕ) → corner chain n x i ≡ corner chain n x′ i′ → corner chain n y i ≡ corner chain n y′ i′ → step x y ≡ step x′ y′
+one-step : (chain : Chain) (n : ℕ) → leastSteps chain ≤ n → (x y x′ y′ : Bool) (i i′ : ℕ)
+    → corner chain n x i ≡ corner chain n x′ i′ → corner chain n y i ≡ corner chain n y′ i′ → step x y ≡ step x′ y′
 one-step chain n h x y x′ y′ i i′ p q =
     goes-once (chain-turn chain n h) (step x y) (step x′ y′) (corner chain n x′ i′) (corner chain n y′ i′)
     (subst₂ (λ u v. Goes (afterOf chain n) (step x y) u v) p q (goes chain n x y i)) (goes chain n x′ y′ i′)
@@ -73,19 +74,27 @@ module _ (along : Chain) (m : ℕ) (round : Chain) (n : ℕ) (base : ℕ) (hm : 
     pub from-ring : corner along m (t .0) g ≡ corner along m (t′ .0) g′
     pub from-place : corner round n (t .1) i ≡ corner round n (t′ .1) i′
 
-  link-same : (t h t′ h′ : Corner) (g i g′ i′ : ℕ) → i < n → i′ < n → link along m round n base t h g i ≡ link along m round n base t′ h′ g′ i′ → SameLink t h t′ h′ g i g′ i′
+  link-same : (t h t′ h′ : Corner) (g i g′ i′ : ℕ) → i < n → i′ < n
+      → link along m round n base t h g i ≡ link along m round n base t′ h′ g′ i′ → SameLink t h t′ h′ g i g′ i′
   link-same t h t′ h′ g i g′ i′ hi hi′ p =
-      let at : Corner → ℕ → ℕ → ℕ = λ c k j. vertex round n base (corner along m (c .0) k) (corner round n (c .1) j) in
       let tails : at t g i ≡ at t′ g′ i′ = cc in
       let heads : at h g i ≡ at h′ g′ i′ = cc in
-      let u = vertex-inj (pointsOf round n) base (corner along m (t .0) g) (corner round n (t .1) i) (corner along m (t′ .0) g′) (corner round n (t′ .1) i′) (corner-lt round n (t .1) i hi) (corner-lt round n (t′ .1) i′ hi′) tails in
-      let v = vertex-inj (pointsOf round n) base (corner along m (h .0) g) (corner round n (h .1) i) (corner along m (h′ .0) g′) (corner round n (h′ .1) i′) (corner-lt round n (h .1) i hi) (corner-lt round n (h′ .1) i′ hi′) heads in
+      let u = one-corner t t′ tails in
+      let v = one-corner h h′ heads in
       record {
         step-along = one-step along m hm (t .0) (h .0) (t′ .0) (h′ .0) g g′ (u .0) (v .0);
         step-round = one-step round n hn (t .1) (h .1) (t′ .1) (h′ .1) i i′ (u .1) (v .1);
         from-ring = u .0;
         from-place = u .1;
       }
+    where
+      at : Corner → ℕ → ℕ → ℕ
+      at c k j = vertex round n base (corner along m (c .0) k) (corner round n (c .1) j)
+
+      one-corner : (c c′ : Corner) → at c g i ≡ at c′ g′ i′ → (corner along m (c .0) g ≡ corner along m (c′ .0) g′) × (corner round n (c .1) i ≡ corner round n (c′ .1) i′)
+      one-corner c c′ e =
+          vertex-inj (pointsOf round n) base (corner along m (c .0) g) (corner round n (c .1) i) (corner along m (c′ .0) g′) (corner round n (c′ .1) i′)
+          (corner-lt round n (c .1) i hi) (corner-lt round n (c′ .1) i′ hi′) e
 
   module _ (P : Pattern) where
     abbrev at : ℕ → ℕ → ℕ → Edge

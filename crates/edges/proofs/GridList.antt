@@ -24,9 +24,13 @@ use Rattle.edges.proofs.Places.{places, places-pos, places-none, places
 use Rattle.edges.proofs.Grid.{vertex, place, outer, outer-le, grid-apart, grid-mate, grid-lone, sum-outer}
 
 -- a quad's edges are its pattern's, in some order
+abbrev quadAt : Split → Chain → ℕ → Chain → ℕ → ℕ → ℕ → ℕ → List Triangle
+quadAt split along m round n base g i =
+    let v = vertex round n base in
+    quadOf split (v g i) (v g (afterOf round n i)) (v (afterOf along m g) i) (v (afterOf along m g) (afterOf round n i))
+
 quad-edges : (split : Split) (along : Chain) (m : ℕ) (round : Chain) (n base g i : ℕ) (f : Edge → ℕ)
-    → let v = vertex round n base in
-    total f (edges (quadOf split (v g i) (v g (afterOf round n i)) (v (afterOf along m g) i) (v (afterOf along m g) (afterOf round n i))))
+    → total f (edges (quadAt split along m round n base g i))
     ≡ sum 6 (λ s. f (place (patternOf split) along m round n base g i s))
 quad-edges Capped along m round n base g i f = omega arith
 quad-edges Torus along m round n base g i f = omega arith
@@ -51,7 +55,7 @@ module _ (split : Split) (along : Chain) (m : ℕ) (round : Chain) (n : ℕ) (ba
   grid-total f =
       total-blocks f m (λ g. rowTriangles split round n (base + g * pointsOf round n) (base + afterOf along m g * pointsOf round n))
       ∙ sum-cong m _ _ (λ g hg.
-      total-blocks f n (λ i. quadOf split (vertex round n base g i) (vertex round n base g (afterOf round n i)) (vertex round n base (afterOf along m g) i) (vertex round n base (afterOf along m g) (afterOf round n i)))
+      total-blocks f n (quadAt split along m round n base g)
       ∙ sum-cong n _ _ (λ i hi. quad-edges split along m round n base g i f))
 
   pub in-grid : (r c : ℕ) → r < pointsOf along m → c < pointsOf round n → Inside base (base + pointsOf along m * pointsOf round n) (vertex round n base r c)
@@ -78,10 +82,12 @@ module _ (split : Split) (along : Chain) (m : ℕ) (round : Chain) (n : ℕ) (ba
       where
         go : (out g i s ≡ 0) ⊎ (0 < out g i s) → lacks (edges list) (at g i s) ≡ out g i s
         go (inl z) =
-            isZero-pos (count (reverse (at g i s)) (edges list)) (omega (arith, grid-total (same (reverse (at g i s))), places-pos m n 6 at (reverse (at g i s)) (grid-mate along m round n base hm hn (patternOf split) g i s hg hi hs z)))
-            ∙ sym z
+            let e = reverse (at g i s) in
+            let mate = grid-mate along m round n base hm hn (patternOf split) g i s hg hi hs z in
+            isZero-pos (count e (edges list)) (omega (arith, grid-total (same e), places-pos m n 6 at e mate)) ∙ sym z
         go (inr p) =
-            ap isZero (grid-total (same (reverse (at g i s))) ∙ places-none m n 6 at (reverse (at g i s)) (grid-lone along m round n base hm hn (patternOf split) g i s hg hi hs p))
+            let e = reverse (at g i s) in
+            ap isZero (grid-total (same e) ∙ places-none m n 6 at e (grid-lone along m round n base hm hn (patternOf split) g i s hg hi hs p))
             ∙ omega (arith, outer-le along m round n base hm hn (patternOf split) g i s hs)
 
     -- A grid that does not close along the curve has the edges of two rings unmatched, one that does not close round has two lines.

@@ -1,4 +1,4 @@
--- Which bit patterns are those of a NaN, and which values are no NaN.
+-- Which bit patterns are those of a NaN, and which values are no NaN. Assumes nothing.
 use mathlib.Core.Path.{_≡_, refl, sym, _∙_, subst}
 use mathlib.Core.Bool.{Bool, true, false, not}
 use Prim.Native.Nat.{ℕ, _*_, _%_, _≤_, _<_}

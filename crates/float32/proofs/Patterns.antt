@@ -1,4 +1,4 @@
--- The bit patterns of an `f32`: what number each stands for.
+-- The bit patterns of an `f32`: what number each stands for. Assumes nothing.
 use mathlib.Core.Path.{_≡_, refl, sym, ap, _∙_, subst}
 use Prim.Native.Nat.{ℕ, suc, _+_, _-_, _*_, _/_, _%_, _^_, _≤_, _<_}
 use native.Mathlib.Nat.{not-le-of-lt, mod-eq-of-lt, mul-one, mul-assoc, add-comm}

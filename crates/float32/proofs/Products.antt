@@ -1,4 +1,4 @@
--- A product is at most the product of what its factors are at most: with the bounds written out, so that omega can be told them.
+-- A product is at most the product of what its factors are at most: with the bounds written out, so that omega can be told them. Assumes nothing.
 use Prim.Native.Nat.{ℕ, _*_, _≤_}
 use native.Mathlib.Nat.{mul-le-mul}
 

@@ -1,4 +1,4 @@
--- The root of an `f32` above zero, from the whole number nearest to the root of a square of 47 or 48 digits.
+-- The root of an `f32` above zero, from the whole number nearest to the root of a square of 47 or 48 digits. Assumes nothing.
 use mathlib.Core.Path.{_≡_, refl, sym, ap, _∙_, subst}
 use mathlib.Core.Logic.{inl, inr}
 use Prim.Native.Nat.{ℕ, zero, suc, _+_, _-_, _*_, _/_, _^_, _≤_, _<_, compare}

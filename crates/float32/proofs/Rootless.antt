@@ -1,4 +1,4 @@
--- The patterns from the infinity's on, save its own and that of -0, are those of values with no root: NaNs, and numbers below zero.
+-- The patterns from the infinity's on, save its own and that of -0, are those of values with no root: NaNs, and numbers below zero. Assumes nothing.
 use mathlib.Core.Path.{_≡_, refl, sym, ap, _∙_, subst}
 use Prim.Native.Nat.{ℕ, zero, suc, _+_, _*_, _/_, _%_, _^_, _≤_, _<_}
 use native.Mathlib.Nat.{lt-irrefl, mul-pos, zero-mul, eq-zero-or-pos}

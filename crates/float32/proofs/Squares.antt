@@ -1,4 +1,4 @@
--- Whole roots and nearest roots: the 24 leading digits of a root, and which of two neighbours is the nearer, when the square is N * p * p.
+-- Whole roots and nearest roots: the 24 leading digits of a root, and which of two neighbours is the nearer, when the square is N * p * p. Assumes nothing.
 use mathlib.Core.Path.{_≡_, refl, sym, ap, _∙_, subst}
 use mathlib.Core.Logic.{inl, inr}
 use Prim.Native.Nat.{ℕ, suc, _+_, _*_, _/_, _≤_, _<_, compare, Ordering, Ordering·lt, Ordering·eq, Ordering·gt}

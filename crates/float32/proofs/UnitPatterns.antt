@@ -1,4 +1,4 @@
--- The pattern of g * 2 ^ k of the smallest value, for a g of 24 digits or 2 ^ 24.
+-- The pattern of g * 2 ^ k of the smallest value, for a g of 24 digits or 2 ^ 24. Assumes nothing.
 use mathlib.Core.Path.{_≡_, refl, sym, ap, _∙_, subst}
 use mathlib.Core.Logic.{inl, inr}
 use Prim.Native.Nat.{ℕ, suc, _+_, _-_, _*_, _/_, _^_, _≤_, _<_}

@@ -1,4 +1,4 @@
--- `hex_lines::digit` meets its contract: each arm is what `cond` picks where the test is as the arm found it.
+-- `hex_lines::digit` meets its contract: each arm is what `cond` picks where the test is as the arm found it. Assumes nothing.
 use borrow.Author.Needs.{needs}
 use borrow.Author.Tests.{lt-ltb, le-ltb}
 use Rattle.hex_lines.specs.Text.{digitOf}

@@ -1,4 +1,4 @@
--- `hex_lines::put_byte` meets its contract: the byte is stored where there is room.
+-- `hex_lines::put_byte` meets its contract: the byte is stored where there is room. Assumes nothing.
 use borrow.Author.Needs.{needs}
 use Rattle.hex_lines.proofs.Behind.{put-one, put-none}
 use Rattle.hex_lines.proofs.put_byte.Statement.{statement}

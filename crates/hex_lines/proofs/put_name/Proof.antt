@@ -1,4 +1,4 @@
--- Each turn of the loop puts one byte of the name behind the last.
+-- Each turn of the loop puts one byte of the name behind the last. Assumes nothing.
 use mathlib.Core.Path.{_≡_, ap, _∙_}
 use Prim.Native.Nat.{ℕ, _-_, _≤_, _<_}
 use native.Mathlib.Numerals.{add-one}

@@ -1,4 +1,4 @@
--- Each turn of the loop puts one digit behind the last.
+-- Each turn of the loop puts one digit behind the last. Assumes nothing.
 use mathlib.Core.Path.{_≡_, ap}
 use mathlib.Core.List.{[], _∷_}
 use Prim.Native.Nat.{ℕ, _-_, _≤_}

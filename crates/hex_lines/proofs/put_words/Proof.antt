@@ -1,4 +1,4 @@
--- Each turn of the loop puts one word behind the last, and what follows it.
+-- Each turn of the loop puts one word behind the last, and what follows it. Assumes nothing.
 use mathlib.Core.Path.{_≡_, ap}
 use mathlib.Core.List.{[], _∷_, _++_}
 use Prim.Native.Nat.{ℕ, _-_, _≤_}

@@ -1,4 +1,4 @@
--- Each turn of the loop puts one list, within the buffer.
+-- Each turn of the loop puts one list, within the buffer. Assumes nothing.
 use mathlib.Core.Path.{_≡_}
 use Prim.Native.Nat.{_-_, _≤_}
 use native.Mathlib.Omega.{arith}

@@ -1,4 +1,4 @@
--- Each turn of the loop puts the line of one triangle, within the buffer.
+-- Each turn of the loop puts the line of one triangle, within the buffer. Assumes nothing.
 use mathlib.Core.Path.{_≡_}
 use Prim.Native.Nat.{_-_, _≤_}
 use borrow.Author.Needs.{needs}

@@ -1,4 +1,4 @@
--- Three indices a triangle are within the buffer, since a list is written only where there is room for it.
+-- Three indices a triangle are within the buffer, since a list is written only where there is room for it. Assumes nothing.
 use mathlib.Core.Path.{_≡_, sym, _∙_}
 use mathlib.Core.Bool.{Bool, true, _&&_}
 use Prim.Native.Nat.{ℕ, _+_, _*_, _^_, _≤_}

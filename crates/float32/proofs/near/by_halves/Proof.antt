@@ -1,4 +1,4 @@
--- `float32::near::by_halves` meets its contract. The loop halves the gap between a number that is too low and one that is not.
+-- `float32::near::by_halves` meets its contract. The loop halves the gap between a number that is too low and one that is not. Assumes nothing.
 use Prim.Native.Nat.{ℕ, _+_, _-_, _*_, _/_, _≤_, _<_}
 use mathlib.Core.Path.{_≡_, subst}
 use native.Mathlib.Omega.{arith}

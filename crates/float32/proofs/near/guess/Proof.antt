@@ -1,4 +1,4 @@
--- `float32::near::guess` meets its contract: it makes no pattern of a NaN.
+-- `float32::near::guess` meets its contract: it makes no pattern of a NaN. Assumes nothing.
 use borrow.Author.Needs.{needs}
 use Prim.Native.Nat.{_+_, _-_, _*_, _/_}
 use native.Mathlib.Omega.{arith}

@@ -1,4 +1,4 @@
--- `float32::near::near_root` meets its contract: q or the next number is handed back where the two tests show that it is the nearest.
+-- `float32::near::near_root` meets its contract: q or the next number is handed back where the two tests show that it is the nearest. Assumes nothing.
 use borrow.Author.Needs.{needs}
 use borrow.Author.Tests.{leb-true}
 use Prim.Native.Nat.{ℕ, _*_, _%_, _≤_}

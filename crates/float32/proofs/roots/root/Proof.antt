@@ -1,4 +1,4 @@
--- `float32::root` meets its contract: the argument is the value of its own pattern, and each arm gives that value's root.
+-- `float32::root` meets its contract: the argument is the value of its own pattern, and each arm gives that value's root. Assumes nothing.
 use borrow.Author.Needs.{needs}
 use mathlib.Core.Path.{_≡_, sym, ap, _∙_, subst}
 use lib.Dec.{T}

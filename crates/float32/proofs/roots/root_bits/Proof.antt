@@ -1,4 +1,4 @@
--- `float32::roots::root_bits` meets its contract: with 24 - o places more, what is left beside the square is an even power of two.
+-- `float32::roots::root_bits` meets its contract: with 24 - o places more, what is left beside the square is an even power of two. Assumes nothing.
 use borrow.Author.Needs.{needs}
 use Prim.Native.Nat.{ℕ, _-_, _*_, _≤_, _<_}
 use native.Mathlib.Omega.{arith}

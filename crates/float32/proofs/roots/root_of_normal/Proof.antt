@@ -1,4 +1,4 @@
--- `float32::roots::root_of_normal` meets its contract: the pattern's last 23 digits with a leading one, at the place that the first ones give.
+-- `float32::roots::root_of_normal` meets its contract: the pattern's last 23 digits with a leading one, at the place that the first ones give. Assumes nothing.
 use borrow.Author.Needs.{needs}
 use mathlib.Core.Path.{_≡_, ap, _∙_}
 use Prim.Native.Nat.{ℕ, _+_, _-_, _*_, _/_, _%_, _^_, _≤_}

@@ -1,4 +1,4 @@
--- `float32::roots::root_of_rest` meets its contract: -0 and the infinity are their own roots, and no other value here has one.
+-- `float32::roots::root_of_rest` meets its contract: -0 and the infinity are their own roots, and no other value here has one. Assumes nothing.
 use borrow.Author.Needs.{needs}
 use mathlib.Core.Path.{sym, _∙_}
 use lib.Ieee.{ofBits, neg, div}

@@ -1,4 +1,4 @@
--- `float32::roots::root_of_small` meets its contract: the pattern is how many of the smallest value there are.
+-- `float32::roots::root_of_small` meets its contract: the pattern is how many of the smallest value there are. Assumes nothing.
 use borrow.Author.Needs.{needs}
 use mathlib.Core.Path.{_≡_, sym, ap, _∙_}
 use Prim.Native.Nat.{ℕ, _+_, _-_, _*_, _/_, _%_, _^_, _≤_}

@@ -1,4 +1,4 @@
--- `float32::from_word` meets its contract: the first test tells the patterns of a NaN.
+-- `float32::from_word` meets its contract: the first test tells the patterns of a NaN. Assumes nothing.
 use borrow.Author.Needs.{needs}
 use mathlib.Core.Path.{sym, _∙_}
 use lib.Ieee.{binary32}

@@ -1,4 +1,4 @@
--- `float32::is_finite` meets its contract: only the infinities and a NaN do not lie between the infinities.
+-- `float32::is_finite` meets its contract: only the infinities and a NaN do not lie between the infinities. Assumes nothing.
 use mathlib.Core.Path.{_≡_, refl, sym}
 use mathlib.Core.Bool.{true, false}
 use lib.Ieee.{Float, nan, inf, fin, lt, neg, div, ofBits}

@@ -1,4 +1,4 @@
--- `float32::to_word` meets its contract: only a NaN differs from itself.
+-- `float32::to_word` meets its contract: only a NaN differs from itself. Assumes nothing.
 use borrow.Author.Needs.{needs}
 use mathlib.Core.Path.{sym, ap, subst}
 use lib.Dec.{T}

@@ -1,4 +1,4 @@
--- `vec3::frames::perpendicular` meets its contract: each arm is what `cond` picks where the test is as the arm found it.
+-- `vec3::frames::perpendicular` meets its contract: each arm is what `cond` picks where the test is as the arm found it. Assumes nothing.
 use borrow.Author.Needs.{needs}
 use Rattle.vec3.specs.Frames.{perpendicularTo, acrossX, acrossY}
 use Rattle.vec3.proofs.frames.perpendicular.Statement.{statement}

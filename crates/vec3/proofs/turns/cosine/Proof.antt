@@ -1,4 +1,4 @@
--- `vec3::turns::cosine` meets its contract: the code is the definition, its numbers by their bit patterns.
+-- `vec3::turns::cosine` meets its contract: the code is the definition, its numbers by their bit patterns. Assumes nothing.
 use mathlib.Core.Path.{refl}
 use lib.Ieee.{ofInt, ofBits}
 use Rattle.vec3.specs.Turns.{cosineOf, bracket, fraction, minusFraction, whole}

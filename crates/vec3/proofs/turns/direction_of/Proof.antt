@@ -1,4 +1,4 @@
--- `vec3::turns::direction_of` meets its contract: each call gives what the definition names.
+-- `vec3::turns::direction_of` meets its contract: each call gives what the definition names. Assumes nothing.
 use borrow.Author.Needs.{needs}
 use native.Mathlib.Nat.{mod-lt, div-lt-iff-lt-mul}
 use native.Mathlib.Omega.{arith}

@@ -1,4 +1,4 @@
--- `vec3::turns::in_octant` meets its contract: at each o the arm is the table's entry.
+-- `vec3::turns::in_octant` meets its contract: at each o the arm is the table's entry. Assumes nothing.
 use mathlib.Core.Path.{_≡_}
 use Prim.Native.Nat.{ℕ, _≤_, _<_}
 use native.Mathlib.Omega.{arith}

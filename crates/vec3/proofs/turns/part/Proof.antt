@@ -1,4 +1,4 @@
--- `vec3::turns::part` meets its contract: each arm is what `cond` picks where the test is as the arm found it.
+-- `vec3::turns::part` meets its contract: each arm is what `cond` picks where the test is as the arm found it. Assumes nothing.
 use borrow.Author.Needs.{needs}
 use borrow.Author.Tests.{eq-eqb, ne-eqb}
 use native.Mathlib.Omega.{arith}

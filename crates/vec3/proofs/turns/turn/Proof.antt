@@ -1,4 +1,4 @@
--- `vec3::turn` meets its contract: each arm is what `cond` picks where the tests are as the arm found them.
+-- `vec3::turn` meets its contract: each arm is what `cond` picks where the tests are as the arm found them. Assumes nothing.
 use borrow.Author.Needs.{needs}
 use borrow.Author.Tests.{lt-ltb, le-ltb}
 use mathlib.Core.Logic.{⊎-elim}

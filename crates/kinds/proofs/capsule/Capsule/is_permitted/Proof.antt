@@ -17,15 +17,19 @@ are-longitudes-permitted-requires : tie.Need-are-longitudes-permitted-requires
 are-longitudes-permitted-requires c κs = search needs
 
 returns : tie.Need-returns
-returns c = passed (c .before .before .before .before .is-between .ensures) (c .before .before .before .if1 .taken) (passed (c .before .before .is-between2 .ensures) (c .before .if2 .taken) (c .are-longitudes-permitted .ensures))
+returns c =
+    passed (c .before .before .before .before .is-between .ensures) (c .before .before .before .if1 .taken)
+    (passed (c .before .before .is-between2 .ensures) (c .before .if2 .taken) (c .are-longitudes-permitted .ensures))
 
 returns-2 : tie.Need-returns-2
 returns-2 c = let k = c .before .before .before .before .args .self in
-    passed (c .before .before .before .is-between .ensures) (c .before .before .if1 .taken) (failed (longitudesPermitted (k .longitudes) (k .segments)) (c .before .is-between2 .ensures) (c .if2 .left))
+    passed (c .before .before .before .is-between .ensures) (c .before .before .if1 .taken)
+    (failed (longitudesPermitted (k .longitudes) (k .segments)) (c .before .is-between2 .ensures) (c .if2 .left))
 
 returns-3 : tie.Need-returns-3
 returns-3 c = let k = c .before .before .args .self in
-    sym (c .if1 .left) ∙ failed (segmentsPermitted (k .segments) && longitudesPermitted (k .longitudes) (k .segments)) (c .before .is-between .ensures) (c .if1 .left)
+    sym (c .if1 .left)
+    ∙ failed (segmentsPermitted (k .segments) && longitudesPermitted (k .longitudes) (k .segments)) (c .before .is-between .ensures) (c .if1 .left)
 
 pub is-permitted-spec : {M : Type 1} → statement M
 is-permitted-spec =

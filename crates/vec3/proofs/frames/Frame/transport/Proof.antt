@@ -1,4 +1,4 @@
--- `vec3::Frame::transport` meets its contract: each call gives what the definition names.
+-- `vec3::Frame::transport` meets its contract: each call gives what the definition names. Assumes nothing.
 use borrow.Author.Needs.{needs}
 use Rattle.vec3.specs.Frames.{transported}
 use Rattle.vec3.proofs.frames.Frame.transport.Statement.{statement}

@@ -1,4 +1,4 @@
--- `vec3::Point::normalize` meets its contract: each call gives what the definition names.
+-- `vec3::Point::normalize` meets its contract: each call gives what the definition names. Assumes nothing.
 use borrow.Author.Needs.{needs}
 use Rattle.vec3.specs.Points.{normalised}
 use Rattle.vec3.proofs.points.Point.normalize.Statement.{statement}

@@ -1,4 +1,4 @@
--- `vec3::Point::sub` meets its contract: the code is the definition.
+-- `vec3::Point::sub` meets its contract: the code is the definition. Assumes nothing.
 use mathlib.Core.Path.{refl}
 use Rattle.vec3.specs.Points.{differenceOf}
 use Rattle.vec3.proofs.points.Point.sub.Statement.{statement}
