@@ -1,3 +1,4 @@
 pub mod WholeRoot
 pub mod Root
 pub mod Near
+pub mod Scan

@@ -9,7 +9,7 @@ use Rattle.surface.specs.declared.grid.Chain.the-variants as Chain
 use Rattle.surface.specs.declared.quads.Split.the-variants as Split
 use Rattle.surface.specs.declared.whole.Along.the-variants as Along
 use Rattle.surface.specs.declared.whole.Surface.{Surface}
-use Rattle.kinds.specs.Limits.{segmentsPermitted, loopPermitted, divisionsPermitted, longitudesPermitted, layersPermitted}
+use Rattle.kinds.specs.Limits.{segmentCountPermitted, loopPermitted, divisionsPermitted, longitudesPermitted, layersPermitted}
 use Rattle.kinds.specs.Lists.{closedTriangles, torusTriangles, tubeTriangles, ribbonTriangles}
 use Rattle.kinds.specs.declared.capsule.Capsule as Capsules
 use Rattle.kinds.specs.declared.topology.Topology.{Topology}
@@ -23,9 +23,9 @@ abbrev pub layersOf : Capsules.Capsule → ℕ
 layersOf k = stepsOf k - 2
 
 abbrev pub permitted : Topology → Bool
-permitted (Ribbon k) = segmentsPermitted (k .segments)
-permitted (Tube k) = divisionsPermitted (k .divisions) && segmentsPermitted (k .segments)
-permitted (Capsule k) = divisionsPermitted (k .divisions) && (segmentsPermitted (k .segments) && longitudesPermitted (k .longitudes) (k .segments))
+permitted (Ribbon k) = segmentCountPermitted (k .segments)
+permitted (Tube k) = divisionsPermitted (k .divisions) && segmentCountPermitted (k .segments)
+permitted (Capsule k) = divisionsPermitted (k .divisions) && (segmentCountPermitted (k .segments) && longitudesPermitted (k .longitudes) (k .segments))
 permitted (Torus k) = divisionsPermitted (k .divisions) && loopPermitted (k .vertices)
 permitted (ClosedCylinder k) = divisionsPermitted (k .divisions) && layersPermitted (k .layers)
 

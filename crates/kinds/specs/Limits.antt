@@ -7,8 +7,8 @@ abbrev pub between : ℕ → ℕ → ℕ → Bool
 between least most x = leb least x && leb x most
 
 -- 10: curve vertices 2 to 4,096, which is 1 to 4,095 segments; 3 to 4,096 for a torus
-abbrev pub segmentsPermitted : ℕ → Bool
-segmentsPermitted m = between 1 4095 m
+abbrev pub segmentCountPermitted : ℕ → Bool
+segmentCountPermitted m = between 1 4095 m
 
 abbrev pub loopPermitted : ℕ → Bool
 loopPermitted N = between 3 4096 N

@@ -32,17 +32,27 @@ impl Capsule {
     pub fn is_permitted(self) -> bool
         ensures { λ r. ⌜ r ≡ permitted (Topology.Capsule self) ⌝ }
     {
-        if limits::is_between(Self::LEAST_DIVISIONS, Self::MOST_DIVISIONS, self.divisions) {
-            return limits::is_between(Self::LEAST_SEGMENTS, Self::MOST_SEGMENTS, self.segments)
-                && self.are_longitudes_permitted();
+        if limits::is_between(
+            Self::LEAST_DIVISIONS,
+            Self::MOST_DIVISIONS,
+            self.divisions as usize,
+        ) {
+            return limits::is_between(
+                Self::LEAST_SEGMENTS,
+                Self::MOST_SEGMENTS,
+                self.segments as usize,
+            )
+                && Self::are_longitudes_permitted(self.longitudes as u32, self.segments);
         }
         false
     }
 
-    fn are_longitudes_permitted(self) -> bool
-        ensures { λ r. ⌜ r ≡ longitudesPermitted (self .longitudes) (self .segments) ⌝ }
+    // So many longitude divisions in each cap, and both caps with the segments.
+    pub fn are_longitudes_permitted(longitudes: u32, segments: u16) -> bool
+        ensures { λ r. ⌜ r ≡ longitudesPermitted longitudes segments ⌝ }
     {
-        self.longitudes <= Self::MOST_LONGITUDES && Self::LEAST_STEPS <= self.steps()
+        longitudes <= Self::MOST_LONGITUDES as u32
+            && Self::LEAST_STEPS <= 2 * longitudes + segments as u32
     }
 
     // The steps of a line from pole to pole: both caps and the segments.

@@ -25,8 +25,12 @@ impl ClosedCylinder {
     pub fn is_permitted(self) -> bool
         ensures { λ r. ⌜ r ≡ permitted (Topology.ClosedCylinder self) ⌝ }
     {
-        limits::is_between(Self::LEAST_DIVISIONS, Self::MOST_DIVISIONS, self.divisions)
-            && limits::is_between(Self::LEAST_LAYERS, Self::MOST_LAYERS, self.layers)
+        limits::is_between(
+            Self::LEAST_DIVISIONS,
+            Self::MOST_DIVISIONS,
+            self.divisions as usize,
+        )
+            && limits::is_between(Self::LEAST_LAYERS, Self::MOST_LAYERS, self.layers as usize)
     }
 
     pub fn vertex_count(self) -> u64

@@ -9,6 +9,7 @@ mod tube;
 
 pub use capsule::Capsule;
 pub use closed_cylinder::ClosedCylinder;
+pub use limits::is_between;
 pub use ribbon::Ribbon;
 pub use topology::Topology;
 pub use torus::Torus;

@@ -11,10 +11,11 @@ pub(crate) const LEAST_SEGMENTS: u16 = 1;
 
 pub(crate) const MOST_SEGMENTS: u16 = 4095;
 
-pub(crate) fn is_between(least: u16, most: u16, x: u16) -> bool
+// Over a number that no caller need have cut to the kinds' own.
+pub fn is_between(least: u16, most: u16, x: usize) -> bool
     ensures { λ r. ⌜ r ≡ between least most x ⌝ }
 {
-    least <= x && x <= most
+    least as usize <= x && x <= most as usize
 }
 
 // A product of two sizes, which fits whatever they are.

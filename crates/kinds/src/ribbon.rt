@@ -20,7 +20,11 @@ impl Ribbon {
     pub fn is_permitted(self) -> bool
         ensures { λ r. ⌜ r ≡ permitted (Topology.Ribbon self) ⌝ }
     {
-        limits::is_between(Self::LEAST_SEGMENTS, Self::MOST_SEGMENTS, self.segments)
+        limits::is_between(
+            Self::LEAST_SEGMENTS,
+            Self::MOST_SEGMENTS,
+            self.segments as usize,
+        )
     }
 
     pub fn vertex_count(self) -> u64

@@ -2,7 +2,7 @@ ghost use mathlib.Core.Path.{_≡_};
 ghost use mathlib.Core.Bool.{true};
 ghost use lib.ListN.{length};
 ghost use Rattle.surface.specs.Triangles.{flatten, shift};
-ghost use Rattle.surface.specs.Whole.{placed};
+ghost use Rattle.laws.specs.Overwrite.{placed};
 ghost use Rattle.kinds.specs.Kinds.{permitted, vertexCount, triangleCount, trianglesOf, surfaceOf, writable};
 use crate::capsule::Capsule;
 use crate::closed_cylinder::ClosedCylinder;

@@ -25,8 +25,16 @@ impl Torus {
     pub fn is_permitted(self) -> bool
         ensures { λ r. ⌜ r ≡ permitted (Topology.Torus self) ⌝ }
     {
-        limits::is_between(Self::LEAST_DIVISIONS, Self::MOST_DIVISIONS, self.divisions)
-            && limits::is_between(Self::LEAST_VERTICES, Self::MOST_VERTICES, self.vertices)
+        limits::is_between(
+            Self::LEAST_DIVISIONS,
+            Self::MOST_DIVISIONS,
+            self.divisions as usize,
+        )
+            && limits::is_between(
+                Self::LEAST_VERTICES,
+                Self::MOST_VERTICES,
+                self.vertices as usize,
+            )
     }
 
     pub fn vertex_count(self) -> u64

@@ -25,8 +25,16 @@ impl Tube {
     pub fn is_permitted(self) -> bool
         ensures { λ r. ⌜ r ≡ permitted (Topology.Tube self) ⌝ }
     {
-        limits::is_between(Self::LEAST_DIVISIONS, Self::MOST_DIVISIONS, self.divisions)
-            && limits::is_between(Self::LEAST_SEGMENTS, Self::MOST_SEGMENTS, self.segments)
+        limits::is_between(
+            Self::LEAST_DIVISIONS,
+            Self::MOST_DIVISIONS,
+            self.divisions as usize,
+        )
+            && limits::is_between(
+                Self::LEAST_SEGMENTS,
+                Self::MOST_SEGMENTS,
+                self.segments as usize,
+            )
     }
 
     pub fn vertex_count(self) -> u64

@@ -1,13 +1,13 @@
 -- A list made of blocks, one after the other ("for j from 0", "each layer g and each i" of document 01, 'Triangle lists'), and the law of
 -- every loop that writes one. Assumes nothing.
 use mathlib.Core.Path.{_≡_, refl, sym, ap, _∙_}
-use mathlib.Core.List.{List, [], _++_}
-use Prim.Native.Nat.{ℕ, zero, suc, _+_, _*_, _<_}
-use native.Mathlib.Nat.{suc-mul}
+use mathlib.Core.List.{List, [], _++_, append-nil, append-assoc}
+use Prim.Native.Nat.{ℕ, zero, suc, _+_, _-_, _*_, _≤_, _<_}
+use native.Mathlib.Nat.{suc-mul, zero-add}
 use native.Mathlib.Numerals.{add-one}
 use native.Mathlib.Omega.{arith}
 use lib.ListN.{length, length-append}
-use Rattle.laws.specs.Overwrite.{overwrite, overwrite-append}
+use Rattle.laws.specs.Overwrite.{overwrite, written-behind}
 
 module _ {ℓ} {A : Type ℓ} where
   -- f 0, then f 1, up to f (n - 1), one after the other; it grows at its end, as the loop that writes it does
@@ -28,17 +28,32 @@ module _ {ℓ} {A : Type ℓ} where
   blocks-cong (suc n) f g h =
       ap (λ (l : List A). l ++ f n) (blocks-cong n f g (λ k l. h k (omega arith))) ∙ ap (λ (l : List A). blocks n g ++ l) (h n (omega arith))
 
+  -- the first block, and the others behind it
+  pub blocks-first : (n : ℕ) (f : ℕ → List A) → blocks (n + 1) f ≡ f 0 ++ blocks n (λ k. f (k + 1))
+  blocks-first zero f = sym (append-nil (f 0))
+  blocks-first (suc n) f =
+      ap (λ (k : ℕ). blocks k f) (add-one (suc n))
+      ∙ ap (λ (k : ℕ). blocks k f ++ f k) (sym (add-one n))
+      ∙ ap (λ (l : List A). l ++ f (n + 1)) (blocks-first n f)
+      ∙ append-assoc (f 0) (blocks n (λ k. f (k + 1))) (f (n + 1))
+
   -- A turn of a loop that writes blocks of c elements: it finds t, with i blocks written, and leaves t′, having written v at p.
   pub one-more : (at i c : ℕ) (f : ℕ → List A) (t₀ : List A) {t t′ v : List A} {p : ℕ} → ((k : ℕ) → k < i → length (f k) ≡ c)
       → t ≡ overwrite at (blocks i f) t₀ → p ≡ at + i * c → t′ ≡ overwrite p v t → v ≡ f i → t′ ≡ overwrite at (blocks (i + 1) f) t₀
-  one-more at i c f t₀ {t} {t′} {v} {p} sized before place written is =
-      written
-      ∙ ap (λ (w : List A). overwrite p w t) is
-      ∙ ap (λ (s : List A). overwrite p (f i) s) before
-      ∙ ap (λ (k : ℕ). overwrite k (f i) (overwrite at (blocks i f) t₀)) (place ∙ ap (λ (k : ℕ). at + k) (sym (length-blocks c i f sized)))
-      ∙ overwrite-append at (blocks i f) (f i) t₀
+  one-more at i c f t₀ {t} sized before place written is =
+      written-behind at (blocks i f) (f i) t₀ before (length-blocks c i f sized) (written ∙ (λ j. overwrite (place j) (is j) t))
       ∙ ap (λ (k : ℕ). overwrite at (blocks k f) t₀) (sym (add-one i))
 
   -- what such a loop leaves, once its count is n
   pub all-written : (at : ℕ) (f : ℕ → List A) (t₀ : List A) {t : List A} {i n : ℕ} → t ≡ overwrite at (blocks i f) t₀ → i ≡ n → t ≡ overwrite at (blocks n f) t₀
   all-written at f t₀ {t} {i} {n} so e = so ∙ ap (λ (k : ℕ). overwrite at (blocks k f) t₀) e
+
+  -- what is left where block 0, v, is written and the others behind it
+  pub first-and-others : (n c : ℕ) (f : ℕ → List A) (t₀ : List A) {t t′ v : List A} → 1 ≤ n → length (f 0) ≡ c
+      → t ≡ overwrite 0 v t₀ → v ≡ f 0 → t′ ≡ overwrite c (blocks (n - 1) (λ k. f (k + 1))) t → t′ ≡ overwrite 0 (blocks n f) t₀
+  first-and-others n c f t₀ {t} h sized first is others =
+      let e : n - 1 + 1 ≡ n = omega arith in
+      let rest = blocks (n - 1) (λ k. f (k + 1)) in
+      written-behind 0 (f 0) rest t₀ (first ∙ ap (λ (w : List A). overwrite 0 w t₀) is) sized
+      (others ∙ ap (λ (k : ℕ). overwrite k rest t) (sym (zero-add c)))
+      ∙ ap (λ (l : List A). overwrite 0 l t₀) (sym (blocks-first (n - 1) f) ∙ ap (λ (k : ℕ). blocks k f) e)

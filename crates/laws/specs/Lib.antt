@@ -2,3 +2,4 @@ pub mod Overwrite
 pub mod Blocks
 pub mod Products
 pub mod Conjunction
+pub mod Every

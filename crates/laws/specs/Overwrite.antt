@@ -1,5 +1,6 @@
 -- What a buffer holds after a write, as one list: every element, as document 01, 'At review', wants it. Assumes nothing.
 use mathlib.Core.Path.{_≡_, refl, sym, ap, _∙_, subst}
+use mathlib.Core.Bool.{Bool, true, false}
 use mathlib.Core.List.{List, [], _∷_, _++_}
 use Prim.Native.Nat.{ℕ, zero, suc, _+_, _≤_, _<_}
 use native.Mathlib.Nat.{suc-add, add-suc, not-suc-le-zero, le-of-suc-le-suc}
@@ -15,6 +16,11 @@ module _ {ℓ} {A : Type ℓ} where
   overwrite zero [] (x ∷ old) = x ∷ old
   overwrite zero (y ∷ new) (x ∷ old) = y ∷ overwrite zero new old
   overwrite (suc at) new (x ∷ old) = x ∷ overwrite at new old
+
+  -- `old` with `new` at its front, or as it was ("leave all buffers untouched", 'Refused, and through whom')
+  abbrev pub placed : Bool → List A → List A → List A
+  placed true new old = overwrite zero new old
+  placed false new old = old
 
   pub length-overwrite : (at : ℕ) (new old : List A) → length (overwrite at new old) ≡ length old
   length-overwrite zero new [] = refl
@@ -40,6 +46,12 @@ module _ {ℓ} {A : Type ℓ} where
   overwrite-append (suc at) new more (x ∷ old) =
       ap (λ (k : ℕ). overwrite k more (x ∷ overwrite at new old)) (suc-add at (length new))
       ∙ ap (λ (r : List A). x ∷ r) (overwrite-append at new more old)
+
+  -- the same, as code that makes the two writes finds it
+  pub written-behind : (at : ℕ) (new more t₀ : List A) {t t′ : List A} {k : ℕ}
+      → t ≡ overwrite at new t₀ → length new ≡ k → t′ ≡ overwrite (at + k) more t → t′ ≡ overwrite at (new ++ more) t₀
+  written-behind at new more t₀ first sized second =
+      second ∙ (λ i. overwrite (at + sym sized i) more (first i)) ∙ overwrite-append at new more t₀
 
   -- a write whose first element is stored first
   overwrite-cons : (at : ℕ) (v : A) (vs old : List A) → overwrite (suc at) vs (set old at v) ≡ overwrite at (v ∷ vs) old

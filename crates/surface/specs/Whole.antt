@@ -3,7 +3,6 @@ use mathlib.Core.Bool.{Bool, true, false, cond, _&&_}
 use mathlib.Core.List.{List, _++_}
 use Prim.Native.Nat.{ℕ, _+_, _*_, _^_, _≤_}
 use lib.Dec.{leb}
-use Rattle.laws.specs.Overwrite.{overwrite}
 use Rattle.surface.specs.Triangles.{Triangle}
 use Rattle.surface.specs.Grid.{pointsOf, gridTriangles}
 use Rattle.surface.specs.Caps.{capTriangles}
@@ -57,11 +56,6 @@ surfaceTriangleCount s = 2 * (s .rows * s .columns) + cond (isCapped (s .along))
 -- ('Refused, and through whom', of 3 and of 4).
 unfoldable pub fits : Surface → ℕ → ℕ → Bool
 fits s first room = leb (first + surfaceVertexCount s) (2 ^ 28) && leb (3 * surfaceTriangleCount s) room
-
--- `old` with `new` at its front, or as it was ("leave all buffers untouched", 'Refused, and through whom').
-abbrev pub placed : Bool → List ℕ → List ℕ → List ℕ
-placed true new old = overwrite 0 new old
-placed false new old = old
 
 -- What the grid's writer asks.
 pub record GridFits (s : Surface) (base at room : ℕ) : Type 0 where

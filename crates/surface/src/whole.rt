@@ -1,9 +1,9 @@
 ghost use mathlib.Core.Path.{_≡_};
 ghost use mathlib.Core.Bool.{true};
 ghost use lib.ListN.{length};
-ghost use Rattle.laws.specs.Overwrite.{overwrite};
+ghost use Rattle.laws.specs.Overwrite.{overwrite, placed};
 ghost use Rattle.surface.specs.Triangles.{flatten};
-ghost use Rattle.surface.specs.Whole.{chainOf, isCapped, ringCount, ringSize, surfaceVertexCount, surfaceTriangleCount, surfaceTriangles, fits, placed};
+ghost use Rattle.surface.specs.Whole.{chainOf, isCapped, ringCount, ringSize, surfaceVertexCount, surfaceTriangleCount, surfaceTriangles, fits};
 use crate::caps::End;
 use crate::caps::write_cap;
 use crate::grid::Chain;

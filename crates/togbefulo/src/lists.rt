@@ -3,7 +3,7 @@
 ghost use mathlib.Core.Path.{_≡_};
 ghost use lib.ListN.{length};
 ghost use Rattle.surface.specs.Triangles.{flatten, shift};
-ghost use Rattle.surface.specs.Whole.{placed};
+ghost use Rattle.laws.specs.Overwrite.{placed};
 ghost use Rattle.kinds.specs.Kinds.{trianglesOf, writable};
 ghost use Rattle.kinds.specs.declared.topology.Topology.{Topology};
 use kinds::Capsule;

@@ -5,7 +5,8 @@ use mathlib.Core.List.{List}
 use denote.Ref.{now}
 use lib.ListN.{length}
 use Rattle.surface.specs.Triangles.{Triangle, flatten}
-use Rattle.surface.specs.Whole.{surfaceTriangles, fits, placed}
+use Rattle.laws.specs.Overwrite.{placed}
+use Rattle.surface.specs.Whole.{surfaceTriangles, fits}
 use Rattle.surface.specs.declared.whole.Surface.{Surface}
 use Rattle.kinds.specs.Kinds.{permitted}
 use Rattle.kinds.proofs.AsSurface.{as-surface, fits-writable, not-writable}
