@@ -1,0 +1,30 @@
+-- A curve's vertices and segments (document 01, 'Triangle lists': "m curve segments"; 'Frames and vertices'). A curve is open or closed and
+-- has so many segments: m between m + 1 vertices, or N between N, the last of which is the closing one. Definitions only.
+use mathlib.Core.Bool.{cond}
+use mathlib.Core.List.{List}
+use Prim.Native.Nat.{ℕ, _+_, _*_, _/_}
+use lib.Dec.{ltb}
+use lib.Ieee.{Float, nan}
+use lib.ListN.{length, getD}
+use Rattle.surface.specs.Grid.{afterOf}
+use Rattle.surface.specs.declared.grid.Chain.{Chain}
+use Rattle.vec3.specs.Points.{differenceOf, normalised}
+use Rattle.vec3.specs.declared.points.Point.{Point}
+
+-- how many whole vertices a curve has
+abbrev pub verticesIn : List Float → ℕ
+verticesIn c = length c / 3
+
+-- Vertex k: "Vertices are three f32 each" ('The shared set'). Where the curve has no vertex k, of which the paper says nothing, NaNs.
+unfoldable pub vertexOf : List Float → ℕ → Point
+vertexOf c k =
+    cond (ltb k (verticesIn c)) (record { x = getD c (3 * k) nan; y = getD c (3 * k + 1) nan; z = getD c (3 * k + 2) nan })
+    (record { x = nan; y = nan; z = nan })
+
+-- Segment k of `count`: the difference from vertex k to the next one, which for the closing segment is vertex 0.
+unfoldable pub segmentOf : Chain → ℕ → List Float → ℕ → Point
+segmentOf chain count c k = differenceOf (vertexOf c (afterOf chain count k)) (vertexOf c k)
+
+-- the segment normalised
+unfoldable pub segmentDirection : Chain → ℕ → List Float → ℕ → Point
+segmentDirection chain count c k = normalised (segmentOf chain count c k)

@@ -1,0 +1,11 @@
+// A curve as it is lent: vertices three coordinates each, its segments, what is refused of it, and the frames along it.
+mod checks;
+mod framex;
+mod segments;
+
+pub use checks::are_segments_permitted;
+pub use checks::has_no_fold;
+pub use framex::Carried;
+pub use segments::direction;
+pub use segments::segment;
+pub use segments::vertex;
