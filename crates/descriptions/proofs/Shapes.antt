@@ -1,0 +1,81 @@
+-- What 10, 20 and 21 tell of a body's numbers. Assumes nothing.
+use mathlib.Core.Path.{_≡_, ap, _∙_}
+use mathlib.Core.Bool.{true, _&&_}
+use mathlib.Core.List.{List}
+use Prim.Native.Nat.{ℕ, _+_, _-_, _*_, _%_, _/_, _^_, _≤_}
+use native.Mathlib.Nat.{mul-le-mul}
+use native.Mathlib.Omega.{arith}
+use lib.Dec.{eqb}
+use lib.Ieee.{Float}
+use lib.ListN.{length}
+use borrow.Author.Tests.{le-leb, eqb-true}
+use Rattle.laws.specs.Conjunction.{both-true}
+use Rattle.kinds.specs.Limits.{between, segmentCountPermitted}
+use Rattle.kinds.specs.Kinds.{permitted, vertexCount, triangleCount, layersOf}
+use Rattle.kinds.specs.declared.topology.Topology.{Topology}
+use Rattle.kinds.specs.declared.topology.Topology.the-variants as topology
+use Rattle.kinds.proofs.Bounds.{Bounds, bounds, between-true}
+use Rattle.descriptions.specs.Answers.{AllPermitted, accepted}
+use Rattle.descriptions.specs.Descriptions.{topologyOf}
+use Rattle.descriptions.specs.Refusals.{verticesPermitted, shapeTests, ShapePermitted, shapeOf, checkedTests}
+use Rattle.descriptions.specs.declared.description.Description.{Description}
+use Rattle.descriptions.specs.declared.description.Description.the-variants.{Ribbon, Tube, Capsule, Torus, ClosedCylinder}
+use Rattle.descriptions.proofs.FirstOf.{accepted-by}
+
+pub vertices-most : (d : Description) (N : ℕ) → verticesPermitted d N ≡ true → N ≤ 4096
+vertices-most (Ribbon w) N h = between-true 2 4096 N h .1
+vertices-most (Tube n r) N h = between-true 2 4096 N h .1
+vertices-most (Capsule n L r) N h = between-true 2 4096 N h .1
+vertices-most (Torus n r) N h = between-true 3 4096 N h .1
+vertices-most (ClosedCylinder n S centred r l) N h = omega (arith, eqb-true N 0 h)
+
+-- 2 to 4,096 vertices have 1 to 4,095 segments between them
+open-segments : (N : ℕ) → between 2 4096 N ≡ true → segmentCountPermitted (N - 1) ≡ true
+open-segments N h =
+    let b = between-true 2 4096 N h in
+    let least : 1 ≤ N - 1 = omega arith in
+    let most : N - 1 ≤ 4095 = omega arith in
+    (λ j. le-leb 1 (N - 1) least j && le-leb (N - 1) 4095 most j)
+
+pub shape-permitted : (d : Description) (N : ℕ) → ShapePermitted d N → permitted (topologyOf d N) ≡ true
+shape-permitted (Ribbon w) N h = open-segments N (h .0)
+shape-permitted (Tube n r) N h = λ j. h .1 .0 j && open-segments N (h .0) j
+shape-permitted (Capsule n L r) N h = λ j. h .1 .0 j && (open-segments N (h .0) j && h .1 .1 .0 j)
+shape-permitted (Torus n r) N h = λ j. h .1 .0 j && h .0 j
+shape-permitted (ClosedCylinder n S centred r l) N h = λ j. h .1 .0 j && h .1 .1 .0 j
+
+pub shape-bounds : (d : Description) (N : ℕ) → ShapePermitted d N → Bounds (topologyOf d N)
+shape-bounds d N h = bounds (topologyOf d N) (shape-permitted d N h)
+
+-- A permitted body has no more than 2^28 vertices and triangles, as a whole set has.
+pub counts-most : (t : Topology) → permitted t ≡ true → (vertexCount t ≤ 2 ^ 28) × (triangleCount t ≤ 2 ^ 28)
+counts-most t h = most t (bounds t h) where
+  product-most : (n s : ℕ) → n ≤ 256 → s ≤ 8192 → n * s ≤ 2 ^ 21
+  product-most n s a b = mul-le-mul a b
+
+  most : (t : Topology) → Bounds t → (vertexCount t ≤ 2 ^ 28) × (triangleCount t ≤ 2 ^ 28)
+  most (topology.Ribbon k) b = (omega arith, omega arith)
+  most (topology.Tube k) b =
+      let p = product-most (k .divisions) (k .segments + 1) (b .0 .1) (omega arith) in
+      (omega arith, omega arith)
+  most (topology.Capsule k) b =
+      let p = product-most (k .divisions) (layersOf k + 1) (b .0 .1) (omega arith) in
+      (omega arith, omega arith)
+  most (topology.Torus k) b =
+      let p = product-most (k .divisions) (k .vertices) (b .0 .1) (omega arith) in
+      (omega arith, omega arith)
+  most (topology.ClosedCylinder k) b =
+      let p = product-most (k .divisions) (k .layers + 1) (b .0 .1) (omega arith) in
+      (omega arith, omega arith)
+
+-- what `shape` accepts
+pub accepted-permitted : (d : Description) (N : ℕ) {body : Topology} → accepted body ≡ shapeOf d N → permitted body ≡ true
+accepted-permitted d N h =
+    let told = accepted-by (shapeTests d N) (topologyOf d N) h in
+    ap permitted (told .0) ∙ shape-permitted d N (told .1)
+
+-- what `check` accepts: whole vertices, and a permitted number of them
+pub checked-shape : (d : Description) (c : List Float) → AllPermitted (checkedTests d c) → (length c % 3 ≡ 0) × ShapePermitted d (length c / 3)
+checked-shape d c h =
+    let curve = both-true (eqb (length c % 3) 0) (verticesPermitted d (length c / 3)) (h .0) in
+    (eqb-true (length c % 3) 0 (curve .0), (curve .1, (h .1 .0, (h .1 .1 .0, tt))))

@@ -1,0 +1,103 @@
+-- Every refusal that needs no table, in the order of their numbers, and the orders in which they are tried. Document 01, 'Refused, and
+-- through whom'. Each is said by what is permitted; it refuses where that is false. Definitions only.
+use mathlib.Core.Bool.{Bool, true, _&&_}
+use mathlib.Core.List.{List, [], _∷_, _++_}
+use Prim.Native.Nat.{ℕ, _-_, _%_, _/_}
+use lib.Dec.{eqb}
+use lib.Ieee.{Float, binary32, ofBits, lt}
+use lib.Ieee.Scale.{finite}
+use lib.ListN.{length}
+use Rattle.float32.specs.Scan.{allFinite}
+use Rattle.kinds.specs.Limits.{between, divisionsPermitted, longitudesPermitted, layersPermitted}
+use Rattle.kinds.specs.Kinds.{vertexCount, triangleCount}
+use Rattle.kinds.specs.declared.topology.Topology.{Topology}
+use Rattle.curve.specs.Checks.{segmentsPermitted, foldsPermitted}
+use Rattle.descriptions.specs.Answers.{Answer, Test, Counts, AllPermitted, firstOf}
+use Rattle.descriptions.specs.Descriptions.{curveChain, segmentCount, topologyOf}
+use Rattle.descriptions.specs.declared.description.Description.{Description}
+use Rattle.descriptions.specs.declared.description.Description.the-variants.{Ribbon, Tube, Capsule, Torus, ClosedCylinder}
+
+-- 10: "vertices outside 2 to 4,096 (torus 3 to 4,096, closed cylinder 0)"
+abbrev pub verticesPermitted : Description → ℕ → Bool
+verticesPermitted (Ribbon w) N = between 2 4096 N
+verticesPermitted (Tube n r) N = between 2 4096 N
+verticesPermitted (Capsule n L r) N = between 2 4096 N
+verticesPermitted (Torus n r) N = between 3 4096 N
+verticesPermitted (ClosedCylinder n S centred r l) N = eqb N 0
+
+-- 10 of a curve: "length not a multiple of 3" too
+abbrev pub curvePermitted : Description → List Float → Bool
+curvePermitted d c = eqb (length c % 3) 0 && verticesPermitted d (length c / 3)
+
+-- 12 and 13, over the curve's segments
+abbrev pub curveSegmentsPermitted : Description → List Float → Bool
+curveSegmentsPermitted d c = segmentsPermitted (curveChain d) (segmentCount d (length c / 3)) c
+
+abbrev pub curveFoldsPermitted : Description → List Float → Bool
+curveFoldsPermitted d c = foldsPermitted (curveChain d) (segmentCount d (length c / 3)) c
+
+-- 20: "n outside 3 to 256 (not ribbon)"
+abbrev pub roundPermitted : Description → Bool
+roundPermitted (Ribbon w) = true
+roundPermitted (Tube n r) = divisionsPermitted n
+roundPermitted (Capsule n L r) = divisionsPermitted n
+roundPermitted (Torus n r) = divisionsPermitted n
+roundPermitted (ClosedCylinder n S centred r l) = divisionsPermitted n
+
+-- 21: "L above 256 or 2L + m below 3; layers S outside 1 to 4,096"
+abbrev pub lengthwisePermitted : Description → ℕ → Bool
+lengthwisePermitted (Ribbon w) N = true
+lengthwisePermitted (Tube n r) N = true
+lengthwisePermitted (Capsule n L r) N = longitudesPermitted L (N - 1)
+lengthwisePermitted (Torus n r) N = true
+lengthwisePermitted (ClosedCylinder n S centred r l) N = layersPermitted S
+
+-- 22: "radius, width or length not finite or not above 0"
+unfoldable pub sizePermitted : Float → Bool
+sizePermitted x = finite x && lt (ofBits binary32 0) x
+
+abbrev pub sizesPermitted : Description → Bool
+sizesPermitted (Ribbon w) = sizePermitted w
+sizesPermitted (Tube n r) = sizePermitted r
+sizesPermitted (Capsule n L r) = sizePermitted r
+sizesPermitted (Torus n r) = sizePermitted r
+sizesPermitted (ClosedCylinder n S centred r l) = sizePermitted r && sizePermitted l
+
+abbrev pub test : ℕ → Bool → Test
+test number permitted = record { number = number; permitted = permitted }
+
+-- 10, 20, 21 of a number of curve vertices
+abbrev pub shapeTests : Description → ℕ → List Test
+shapeTests d N = test 10 (verticesPermitted d N) ∷ test 20 (roundPermitted d) ∷ test 21 (lengthwisePermitted d N) ∷ []
+
+abbrev pub ShapePermitted : Description → ℕ → Type 0
+ShapePermitted d N = AllPermitted (shapeTests d N)
+
+abbrev pub shapeOf : Description → ℕ → Answer Topology
+shapeOf d N = firstOf (shapeTests d N) (topologyOf d N)
+
+-- "Counts takes the description and curve vertex count: 10, 20, 21, 22."
+abbrev pub countsTests : Description → ℕ → List Test
+countsTests d N = shapeTests d N ++ (test 22 (sizesPermitted d) ∷ [])
+
+abbrev pub bodyCounts : Topology → Counts
+bodyCounts body = record { vertices = vertexCount body; triangles = triangleCount body }
+
+abbrev pub countsOf : Description → ℕ → Answer Counts
+countsOf d N = firstOf (countsTests d N) (bodyCounts (topologyOf d N))
+
+-- 22, 11, 12, 13, the end of the order below
+abbrev pub floatTests : Description → List Float → List Test
+floatTests d c =
+    test 22 (sizesPermitted d) ∷ test 11 (allFinite c) ∷ test 12 (curveSegmentsPermitted d c) ∷ test 13 (curveFoldsPermitted d c) ∷ []
+
+abbrev pub floatsOf : Description → Topology → List Float → Answer Topology
+floatsOf d body c = firstOf (floatTests d c) body
+
+-- "Add's order: 1, 10, 20, 21, 22, 11, 12, 13, 2, 3, 4, 23", as far as no table is needed.
+abbrev pub checkedTests : Description → List Float → List Test
+checkedTests d c =
+    test 10 (curvePermitted d c) ∷ test 20 (roundPermitted d) ∷ test 21 (lengthwisePermitted d (length c / 3)) ∷ floatTests d c
+
+abbrev pub checkedOf : Description → List Float → Answer Topology
+checkedOf d c = firstOf (checkedTests d c) (topologyOf d (length c / 3))

@@ -1,0 +1,47 @@
+ghost use mathlib.Core.Path.{_≡_};
+ghost use mathlib.Core.Bool.{true};
+ghost use Prim.Native.Nat.{_/_};
+ghost use lib.ListN.{length};
+ghost use Rattle.descriptions.specs.Answers.{verdictAnswer};
+ghost use Rattle.descriptions.specs.Refusals.{verticesPermitted, checkedOf, floatsOf};
+use crate::answers::Refusal;
+use crate::answers::Verdict;
+use crate::description::Description;
+use kinds::Topology;
+
+impl Description {
+    // Refusals 22, 11, 12 and 13, or the body, where 10, 20 and 21 do not refuse it.
+    fn check_floats(self, body: Topology, curve: &[f32]) -> Verdict
+        requires { ⌜ verticesPermitted self (length (now curve) / 3) ≡ true ⌝ }
+        ensures { λ r. ⌜ verdictAnswer r ≡ floatsOf self body (now (curve .entry)) ⌝ }
+    {
+        if !self.are_sizes_permitted() {
+            return Verdict::Refused(Refusal::Size);
+        }
+        if !float32::are_finite(curve) {
+            return Verdict::Refused(Refusal::CurveNotFinite);
+        }
+        let chain = self.chain();
+        let count = self.segment_count(curve.len() / 3);
+        if !curve::are_segments_permitted(chain, count, curve) {
+            return Verdict::Refused(Refusal::Segment);
+        }
+        if !curve::has_no_fold(chain, count, curve) {
+            return Verdict::Refused(Refusal::Fold);
+        }
+        Verdict::Accepted(body)
+    }
+
+    // Refusals 10, 20, 21, 22, 11, 12 and 13, or the body by its numbers.
+    pub fn check(self, curve: &[f32]) -> Verdict
+        ensures { λ r. ⌜ verdictAnswer r ≡ checkedOf self (now (curve .entry)) ⌝ }
+    {
+        if curve.len() % 3 != 0 {
+            return Verdict::Refused(Refusal::CurveVertices);
+        }
+        match self.shape(curve.len() / 3) {
+            Verdict::Refused(why) => Verdict::Refused(why),
+            Verdict::Accepted(body) => self.check_floats(body, curve),
+        }
+    }
+}

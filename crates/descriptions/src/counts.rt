@@ -1,0 +1,44 @@
+ghost use mathlib.Core.Path.{_≡_};
+ghost use Rattle.descriptions.specs.Answers.{verdictAnswer, countedAnswer};
+ghost use Rattle.descriptions.specs.Refusals.{shapeOf, countsOf};
+use crate::answers::Counted;
+use crate::answers::Refusal;
+use crate::answers::Verdict;
+use crate::description::Description;
+
+impl Description {
+    // Refusals 10, 20 and 21, or the body by its numbers.
+    pub fn shape(self, vertices: usize) -> Verdict
+        ensures { λ r. ⌜ verdictAnswer r ≡ shapeOf self vertices ⌝ }
+    {
+        if !self.are_vertices_permitted(vertices) {
+            return Verdict::Refused(Refusal::CurveVertices);
+        }
+        if !self.is_round_permitted() {
+            return Verdict::Refused(Refusal::Divisions);
+        }
+        if !self.is_lengthwise_permitted(vertices) {
+            return Verdict::Refused(Refusal::Layers);
+        }
+        Verdict::Accepted(self.topology(vertices))
+    }
+
+    // Refusals 10, 20, 21 and 22, or how many vertices and triangles the body along a curve of so many vertices has.
+    pub fn counts(self, vertices: usize) -> Counted
+        ensures { λ r. ⌜ countedAnswer r ≡ countsOf self vertices ⌝ }
+    {
+        match self.shape(vertices) {
+            Verdict::Refused(why) => Counted::Refused(why),
+            Verdict::Accepted(body) => {
+                if self.are_sizes_permitted() {
+                    Counted::Counts {
+                        vertices: body.vertex_count() as u32,
+                        triangles: body.triangle_count() as u32,
+                    }
+                } else {
+                    Counted::Refused(Refusal::Size)
+                }
+            }
+        }
+    }
+}

@@ -1,0 +1,103 @@
+ghost use mathlib.Core.Path.{_≡_};
+ghost use mathlib.Core.Bool.{true};
+ghost use Rattle.descriptions.specs.Descriptions.{curveChain, segmentCount, topologyOf};
+ghost use Rattle.descriptions.specs.Refusals.{verticesPermitted, ShapePermitted};
+use kinds::Capsule;
+use kinds::ClosedCylinder;
+use kinds::Ribbon;
+use kinds::Topology;
+use kinds::Torus;
+use kinds::Tube;
+use surface::Chain;
+
+// One of five kinds, each with its sizes. What the curve gives, its number of vertices, is not part of it.
+pub enum Description {
+    Ribbon {
+        width: f32,
+    },
+    Tube {
+        divisions: u32,
+        radius: f32,
+    },
+    Capsule {
+        divisions: u32,
+        longitudes: u32,
+        radius: f32,
+    },
+    Torus {
+        divisions: u32,
+        radius: f32,
+    },
+    ClosedCylinder {
+        divisions: u32,
+        layers: u32,
+        centred: bool,
+        radius: f32,
+        length: f32,
+    },
+}
+
+impl Description {
+    // Whether the curve closes.
+    pub fn chain(self) -> Chain
+        ensures { λ r. ⌜ r ≡ curveChain self ⌝ }
+    {
+        match self {
+            Description::Ribbon { .. } => Chain::Open,
+            Description::Tube { .. } => Chain::Open,
+            Description::Capsule { .. } => Chain::Open,
+            Description::Torus { .. } => Chain::Closed,
+            Description::ClosedCylinder { .. } => Chain::Open,
+        }
+    }
+
+    // How many segments a permitted curve of so many vertices has.
+    pub(crate) fn segment_count(self, vertices: usize) -> u16
+        requires { ⌜ verticesPermitted self vertices ≡ true ⌝ }
+        ensures { λ r. ⌜ r ≡ segmentCount self vertices ⌝ }
+    {
+        if vertices == 0 {
+            return 0;
+        }
+        match self.chain() {
+            Chain::Open => (vertices - 1) as u16,
+            Chain::Closed => vertices as u16,
+        }
+    }
+
+    // The body by its numbers.
+    pub(crate) fn topology(self, vertices: usize) -> Topology
+        requires { ⌜ ShapePermitted self vertices ⌝ }
+        ensures { λ r. ⌜ r ≡ topologyOf self vertices ⌝ }
+    {
+        let segments = self.segment_count(vertices);
+        match self {
+            Description::Ribbon { .. } => Topology::Ribbon(Ribbon { segments }),
+            Description::Tube { divisions, .. } => Topology::Tube(Tube {
+                divisions: divisions as u16,
+                segments,
+            }),
+            Description::Capsule {
+                divisions,
+                longitudes,
+                ..
+            } => Topology::Capsule(Capsule {
+                divisions: divisions as u16,
+                longitudes: longitudes as u16,
+                segments,
+            }),
+            Description::Torus { divisions, .. } => Topology::Torus(Torus {
+                divisions: divisions as u16,
+                vertices: vertices as u16,
+            }),
+            Description::ClosedCylinder {
+                divisions,
+                layers,
+                ..
+            } => Topology::ClosedCylinder(ClosedCylinder {
+                divisions: divisions as u16,
+                layers: layers as u16,
+            }),
+        }
+    }
+}

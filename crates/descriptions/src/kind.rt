@@ -1,0 +1,47 @@
+ghost use mathlib.Core.Path.{_≡_};
+ghost use Rattle.descriptions.specs.KindNumbers.{describedOf};
+use crate::description::Description;
+
+// A description by its kind's number, or none: there are five kinds.
+pub enum Described {
+    Known(Description),
+    Unknown,
+}
+
+// The description with the kind's number and the sizes that the kind has; the others are ignored. `size` is the width of a ribbon and the
+// radius of the others, `steps` the longitudes of a capsule and the layers of a closed cylinder.
+pub fn of_kind(
+    kind: u32,
+    divisions: u32,
+    steps: u32,
+    centred: bool,
+    size: f32,
+    length: f32,
+) -> Described
+    ensures { λ r. ⌜ r ≡ describedOf kind divisions steps centred size length ⌝ }
+{
+    match kind {
+        1 => Described::Known(Description::Ribbon { width: size }),
+        2 => Described::Known(Description::Tube {
+            divisions,
+            radius: size,
+        }),
+        3 => Described::Known(Description::Capsule {
+            divisions,
+            longitudes: steps,
+            radius: size,
+        }),
+        4 => Described::Known(Description::Torus {
+            divisions,
+            radius: size,
+        }),
+        5 => Described::Known(Description::ClosedCylinder {
+            divisions,
+            layers: steps,
+            centred,
+            radius: size,
+            length,
+        }),
+        _ => Described::Unknown,
+    }
+}

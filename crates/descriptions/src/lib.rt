@@ -1,0 +1,14 @@
+// What a caller asks for: one of five kinds with its sizes, the counts that it will have, and every refusal that needs no table.
+mod answers;
+mod checks;
+mod counts;
+mod description;
+mod kind;
+mod limits;
+
+pub use answers::Counted;
+pub use answers::Refusal;
+pub use answers::Verdict;
+pub use description::Description;
+pub use kind::Described;
+pub use kind::of_kind;
