@@ -1,0 +1,7 @@
+pub mod Lengths
+pub mod RingVertices
+pub mod Table
+pub mod Along
+pub mod SideRings
+pub mod Asks
+pub mod Drawable

@@ -1,0 +1,219 @@
+-- Pole, cap, inner rings, cap and pole, each behind the last, are the vertices of the definition. Assumes nothing.
+use mathlib.Core.Path.{_≡_, refl, ap, _∙_}
+use mathlib.Core.List.{List, _++_}
+use Prim.Native.Nat.{ℕ, _+_, _-_, _*_, _≤_}
+use native.Mathlib.Omega.{arith}
+use borrow.Author.Needs.{needs}
+use denote.Ref.{now}
+use lib.Ieee.{Float}
+use lib.ListN.{length}
+use Rattle.laws.specs.Overwrite.{overwrite, written-behind}
+use Rattle.surface.specs.declared.grid.Chain.the-variants.{Open}
+use Rattle.surface.specs.declared.caps.End.{End}
+use Rattle.surface.specs.declared.caps.End.the-variants.{Bottom, Top}
+use Rattle.vec3.specs.Points.{sumOf, differenceOf}
+use Rattle.vec3.specs.declared.points.Point.{Point}
+use Rattle.bodies.specs.Vertices.{coordinates, bottomPole, topPole}
+use Rattle.bodies.specs.Polyline3.{axesOf}
+use Rattle.bodies.specs.Swept.{innerRings}
+use Rattle.bodies.specs.Capsule.{capRings, capsuleVertices}
+use Rattle.bodies.specs.declared.axes.Axes.{Axes}
+use Rattle.bodies.proofs.Along.{axes-first, axes-last}
+use Rattle.bodies.proofs.Lengths.{length-cap, length-inner}
+use Rattle.bodies.proofs.polyline3.to_trimesh3_capsule.Statement.{statement}
+use Rattle.bodies.proofs.polyline3.to_trimesh3_capsule.Tie as tie
+
+-- the five writes are one
+five-written : (n L : ℕ) (r : Float) (m : ℕ) (c t₀ : List Float) {low high : Axes} {p q : Point} {t₁ t₂ t₃ t₄ t₅ : List Float}
+    → low ≡ axesOf m c 0 → p ≡ bottomPole low r → high ≡ axesOf m c m → q ≡ topPole high r
+    → t₁ ≡ overwrite 0 (coordinates p) t₀
+    → t₂ ≡ overwrite 3 (capRings Bottom low r L n) t₁
+    → t₃ ≡ overwrite (3 + L * (n * 3)) (innerRings Open m c r n) t₂
+    → t₄ ≡ overwrite (3 + L * (n * 3) + (m - 1) * (n * 3)) (capRings Top high r L n) t₃
+    → t₅ ≡ overwrite (3 + L * (n * 3) + (m - 1) * (n * 3) + L * (n * 3)) (coordinates q) t₄
+    → t₅ ≡ overwrite 0 (capsuleVertices n L r m c) t₀
+five-written n L r m c t₀ {low} {high} {p} {q} {t₁} {t₂} {t₃} first bottom last top w₁ w₂ w₃ w₄ w₅ =
+    let cap : End → Axes → List Float = λ end a. capRings end a r L n in
+    let inner = innerRings Open m c r n in
+    let two = cap Top high ++ coordinates q in
+    written-behind 0 (coordinates p) (cap Bottom low ++ (inner ++ two)) t₀ w₁ refl
+    (written-behind 3 (cap Bottom low) (inner ++ two) t₁ w₂ (length-cap Bottom low r L n)
+    (written-behind (3 + L * (n * 3)) inner two t₂ w₃ (length-inner Open m c r n)
+    (written-behind (3 + L * (n * 3) + (m - 1) * (n * 3)) (cap Top high) (coordinates q) t₃ w₄ (length-cap Top high r L n) w₅)))
+    ∙ (λ i. overwrite 0 (coordinates ((bottom ∙ ap (λ (a : Axes). bottomPole a r) first) i) ++ (cap Bottom (first i)
+    ++ (inner ++ (cap Top (last i) ++ coordinates ((top ∙ ap (λ (a : Axes). topPole a r) last) i))))) t₀)
+
+-- from the first segment back to the function's start, and from the bottom cap back to the first segment
+abbrev entry : tie.After-first → tie.After-slice-known
+entry c = c .before .before .before .before .before
+
+abbrev carrying : tie.After-write-cap → tie.After-first
+carrying c = c .before .before .before .before .before .before .before .before .before .before .before
+
+-- the five writes are within bounds
+room : (c : tie.After-slice-known) → let a = c .before .args in
+    let size = a .n * 3 in
+    a .longitudes * size + (a .m - 1) * size + a .longitudes * size + 6 ≤ length (now (a .out))
+room c = let a = c .before .args in
+    let p = c .before .pre in
+    let e : 2 * a .longitudes + a .m - 1 ≡ a .longitudes + (a .m - 1) + a .longitudes = omega arith in
+    omega (arith, ap (λ k. k * (a .n * 3)) e)
+
+slice-aggregate-fill-directions : tie.Need-slice-aggregate-fill-directions
+slice-aggregate-fill-directions c = search needs
+
+fill-directions-requires : tie.Need-fill-directions-requires
+fill-directions-requires c κs = search needs
+
+mul-size : tie.Need-mul-size
+mul-size c = search needs
+
+mul-cap : tie.Need-mul-cap
+mul-cap c = let s = c .before .before .before .before in omega (arith, room s)
+
+first-requires : tie.Need-first-requires
+first-requires c κs = search needs
+
+vertex-requires : tie.Need-vertex-requires
+vertex-requires c κs = search needs
+
+at-requires : tie.Need-at-requires
+at-requires c κs = search needs
+
+scale-requires : tie.Need-scale-requires
+scale-requires c κs = search needs
+
+sub-requires : tie.Need-sub-requires
+sub-requires c κs = search needs
+
+put-point-requires : tie.Need-put-point-requires
+put-point-requires c κs = omega (arith, room (entry (c .before .before .before .before .before)))
+
+slice-aggregate-write-cap : tie.Need-slice-aggregate-write-cap
+slice-aggregate-write-cap c = search needs
+
+write-cap-requires : tie.Need-write-cap-requires
+write-cap-requires c κs = let f = c .before .before .before .before .before .before .before .before .before .before in
+    let pole = c .before .before .before .before .put-point .kept .0 in
+    (omega (arith, room (entry f)), f .before .before .fill-directions .ensures)
+
+add-write-inner : tie.Need-add-write-inner
+add-write-inner c = let s = entry (carrying (c .before .before .before)) in omega (arith, room s)
+
+slice-aggregate-write-inner : tie.Need-slice-aggregate-write-inner
+slice-aggregate-write-inner c = let f = carrying (c .before .before .before .before) in search needs
+
+write-inner-requires : tie.Need-write-inner-requires
+write-inner-requires c κs = let k = c .before .before .before .before in
+    let f = carrying k in
+    let s = entry f in
+    let same = k .write-cap .kept .0 ∙ k .before .before .before .before .before .put-point .kept .0 in
+    ((s .before .pre .segment, f .first .ensures), (omega (arith, room s), f .before .before .fill-directions .ensures))
+
+vertex-requires-2 : tie.Need-vertex-requires-2
+vertex-requires-2 c κs = search needs
+
+at-requires-2 : tie.Need-at-requires-2
+at-requires-2 c κs = search needs
+
+add-top : tie.Need-add-top
+add-top c = let s = entry (carrying (c .before .before .before .before .before .before .before .before .before)) in omega (arith, room s)
+
+sub-top : tie.Need-sub-top
+sub-top c = let s = entry (carrying (c .before .before .before .before .before .before .before .before .before)) in omega (arith, room s)
+
+mul-top : tie.Need-mul-top
+mul-top c = let s = entry (carrying (c .before .before .before .before .before .before .before .before .before)) in omega (arith, room s)
+
+add-top-2 : tie.Need-add-top-2
+add-top-2 c = let s = entry (carrying (c .before .before .before .before .before .before .before .before .before)) in omega (arith, room s)
+
+slice-aggregate-write-cap-2 : tie.Need-slice-aggregate-write-cap-2
+slice-aggregate-write-cap-2 c = let f = carrying (c .before .before .before .before .before .before .before .before .before .before .before) in search needs
+
+write-cap-requires-2 : tie.Need-write-cap-requires-2
+write-cap-requires-2 c κs = let e = c .before .before .before .before .before .before in
+    let k = e .before .before .before .before .before in
+    let f = carrying k in
+    let same = e .write-inner .kept .0 ∙ k .write-cap .kept .0 ∙ k .before .before .before .before .before .put-point .kept .0 in
+    (omega (arith, room (entry f)), f .before .before .fill-directions .ensures)
+
+add-put-point : tie.Need-add-put-point
+add-put-point c = let e = c .before .before .before .before .before .before .before .before .before .before in
+    let s = entry (carrying (e .before .before .before .before .before)) in
+    omega (arith, room s)
+
+scale-requires-2 : tie.Need-scale-requires-2
+scale-requires-2 c κs = search needs
+
+add-requires : tie.Need-add-requires
+add-requires c κs = search needs
+
+put-point-requires-2 : tie.Need-put-point-requires-2
+put-point-requires-2 c κs = let t = c .before .before .before .before .before in
+    let e = t .before .before .before .before .before .before .before in
+    let k = e .before .before .before .before .before in
+    let same = t .write-cap2 .kept .0 ∙ e .write-inner .kept .0 ∙ k .write-cap .kept .0 ∙ k .before .before .before .before .before .put-point .kept .0 in
+    omega (arith, room (entry (carrying k)))
+
+same-length : tie.Need-same-length
+same-length c = let t = c .before .before .before .before .before .before .before .before in
+    let e = t .before .before .before .before .before .before .before in
+    let k = e .before .before .before .before .before in
+    c .before .before .put-point2 .kept .0 ∙ t .write-cap2 .kept .0 ∙ e .write-inner .kept .0 ∙ k .write-cap .kept .0
+    ∙ k .before .before .before .before .before .put-point .kept .0
+
+returns : tie.Need-returns
+unfolding bottomPole topPole
+returns c = let q = c .before .before .before in
+    let t = q .before .before .before .before .before in
+    let y = t .before .before .before in
+    let e = y .before .before .before .before in
+    let k = e .before .before .before .before .before in
+    let p = k .before .before .before .before .before in
+    let x = p .before .before .before .before in
+    let f = x .before .before in
+    let s = entry f .before in
+    let a = s .args in
+    let m = a .m in
+    let curve = now (a .curve) in
+    five-written (a .n) (a .longitudes) (a .r) m curve (now (a .out))
+    (axes-first Open m curve (s .pre .segment) (f .first .ensures) (x .before .vertex .ensures) (x .at .ensures))
+    (p .before .sub .ensures ∙ ap (differenceOf (x .at .result .origin)) (p .before .before .scale .ensures))
+    (axes-last m curve (s .pre .segment) (e .write-inner .ensures .0) (y .before .vertex2 .ensures) (y .at2 .ensures))
+    (q .add .ensures ∙ ap (sumOf (y .at2 .result .origin)) (q .before .scale2 .ensures))
+    (p .put-point .ensures) (k .write-cap .ensures) (e .write-inner .ensures .1) (t .write-cap2 .ensures) (c .before .before .put-point2 .ensures)
+
+pub to-trimesh3-capsule-spec : {M : Type 1} → statement M
+to-trimesh3-capsule-spec =
+    tie.close
+    (tie.spec
+    slice-aggregate-fill-directions
+    fill-directions-requires
+    mul-size
+    mul-cap
+    first-requires
+    vertex-requires
+    at-requires
+    scale-requires
+    sub-requires
+    put-point-requires
+    slice-aggregate-write-cap
+    write-cap-requires
+    add-write-inner
+    slice-aggregate-write-inner
+    write-inner-requires
+    vertex-requires-2
+    at-requires-2
+    add-top
+    sub-top
+    mul-top
+    add-top-2
+    slice-aggregate-write-cap-2
+    write-cap-requires-2
+    add-put-point
+    scale-requires-2
+    add-requires
+    put-point-requires-2
+    same-length
+    returns)

@@ -1,0 +1,78 @@
+-- Pole, rings and pole, each written behind the last. Assumes nothing.
+use mathlib.Core.Path.{refl}
+use mathlib.Core.List.{_++_}
+use Prim.Native.Nat.{_+_}
+use denote.Ref.{now}
+use Rattle.laws.specs.Overwrite.{written-behind}
+use Rattle.vec3.specs.Points.{plus}
+use Rattle.bodies.specs.Vertices.{coordinates}
+use Rattle.bodies.specs.ClosedCylinder.{levelVertex, pole, cylinderRings}
+use Rattle.bodies.proofs.Lengths.{length-rings}
+use borrow.Author.Needs.{needs}
+use Rattle.bodies.proofs.trimesh3_primitive.cylinder_closed_end_yup.Statement.{statement}
+use Rattle.bodies.proofs.trimesh3_primitive.cylinder_closed_end_yup.Tie as tie
+
+slice-aggregate-fill-directions : tie.Need-slice-aggregate-fill-directions
+slice-aggregate-fill-directions c = search needs
+
+fill-directions-requires : tie.Need-fill-directions-requires
+fill-directions-requires c κs = search needs
+
+low-requires : tie.Need-low-requires
+low-requires c κs = search needs
+
+add-top : tie.Need-add-top
+add-top c = search needs
+
+mul-top : tie.Need-mul-top
+mul-top c = search needs
+
+mul-top-2 : tie.Need-mul-top-2
+mul-top-2 c = search needs
+
+add-top-2 : tie.Need-add-top-2
+add-top-2 c = search needs
+
+put-point-requires : tie.Need-put-point-requires
+put-point-requires c κs = search needs
+
+slice-aggregate-write-levels : tie.Need-slice-aggregate-write-levels
+slice-aggregate-write-levels c = search needs
+
+write-levels-requires : tie.Need-write-levels-requires
+write-levels-requires c κs = search needs
+
+put-point-requires-2 : tie.Need-put-point-requires-2
+put-point-requires-2 c κs = search needs
+
+same-length : tie.Need-same-length
+same-length c = search needs
+
+returns : tie.Need-returns
+returns c = let w = c .before .before .before .before .before .before .before .before .before .before .before .before .before .low in
+    let a = c .before .before .before .before .before .before .before .before .before .before .before .before .before .before .before .before .before .before .args in
+    let first = c .before .before .before .before .before .before .before .before .before .before .before .put-point in
+    let rings = cylinderRings (a .radius) (w .result) (a .height) (a .layers) (a .n) in
+    let top = coordinates (pole (plus (w .result) (a .height))) in
+    let size = length-rings (levelVertex (a .radius) (w .result) (a .height) (a .layers)) (a .layers + 1) (a .n) in
+    let middle = c .before .before .before .before .before .before .write-levels in
+    let above = written-behind 3 rings top (first .last .0) (middle .ensures) size (c .before .before .put-point2 .ensures) in
+    rw (← w .ensures) (written-behind 0 (coordinates (pole (w .result))) (rings ++ top) (now (a .out)) (first .ensures) refl above)
+
+pub cylinder-closed-end-yup-spec : {M : Type 1} → statement M
+cylinder-closed-end-yup-spec =
+    tie.close
+    (tie.spec
+    slice-aggregate-fill-directions
+    fill-directions-requires
+    low-requires
+    add-top
+    mul-top
+    mul-top-2
+    add-top-2
+    put-point-requires
+    slice-aggregate-write-levels
+    write-levels-requires
+    put-point-requires-2
+    same-length
+    returns)

@@ -1,0 +1,28 @@
+-- The capsule's vertices (document 01, 'Frames and vertices'). Definitions only.
+use mathlib.Core.List.{List, _++_}
+use Prim.Native.Nat.{ℕ, _+_, _-_, _*_}
+use lib.Ieee.{Float}
+use Rattle.laws.specs.Blocks.{blocks}
+use Rattle.surface.specs.declared.caps.End.{End}
+use Rattle.surface.specs.declared.caps.End.the-variants.{Bottom, Top}
+use Rattle.vec3.specs.Turns.{turnOf}
+use Rattle.vec3.specs.declared.points.Point.{Point}
+use Rattle.vec3.specs.declared.turns.Direction.{Direction}
+use Rattle.bodies.specs.Vertices.{coordinates, ringOf, bottomPole, topPole, bottomVertex, topVertex}
+use Rattle.bodies.specs.Polyline3.{axesOf, tubeRing}
+use Rattle.bodies.specs.declared.axes.Axes.{Axes}
+
+-- "Bottom rings j below L: t = turn(L − 1 − j, 4L)", "Top rings: t = turn(j, 4L)"
+abbrev pub capVertex : End → Axes → Float → ℕ → ℕ → Direction → Point
+capVertex Bottom a r L j = bottomVertex a r (turnOf (L - 1 - j) (4 * L))
+capVertex Top a r L j = topVertex a r (turnOf j (4 * L))
+
+abbrev pub capRings : End → Axes → Float → ℕ → ℕ → List Float
+capRings end a r L n = blocks L (λ j. ringOf (capVertex end a r L j) n)
+
+-- "bottom pole .. Bottom rings .. Inner vertices 1 to m − 1 as the tube. Top rings .. Top pole"
+abbrev pub capsuleVertices : ℕ → ℕ → Float → ℕ → List Float → List Float
+capsuleVertices n L r m c =
+    coordinates (bottomPole (axesOf m c 0) r)
+    ++ (capRings Bottom (axesOf m c 0) r L n
+    ++ (blocks (m - 1) (λ k. tubeRing n r m c (k + 1)) ++ (capRings Top (axesOf m c m) r L n ++ coordinates (topPole (axesOf m c m) r))))

@@ -1,0 +1,10 @@
+pub mod Axes
+pub mod Vertices
+pub mod Directions
+pub mod Rings
+pub mod Polyline3
+pub mod Polyloop3
+pub mod Capsule
+pub mod ClosedCylinder
+pub mod Swept
+pub mod Bodies

@@ -1,0 +1,100 @@
+ghost use mathlib.Core.Path.{_≡_};
+ghost use Prim.Native.Nat.{_+_, _*_, _≤_};
+ghost use lib.ListN.{length};
+ghost use Rattle.laws.specs.Overwrite.{overwrite};
+ghost use Rattle.bodies.specs.Directions.{Directions};
+ghost use Rattle.bodies.specs.Rings.{levelOf};
+ghost use Rattle.bodies.specs.ClosedCylinder.{lowOf, cylinderRings, cylinderVertices};
+use crate::directions::TABLE;
+use crate::directions::fill_directions;
+use crate::rings::Order;
+use crate::rings::Ring;
+use crate::rings::put_point;
+use crate::rings::write_ring;
+use vec3::Point;
+
+fn low(centred: bool, height: f32) -> f32
+    ensures { λ r. ⌜ r ≡ lowOf centred height ⌝ }
+{
+    if centred { -height * 0.5 } else { 0.0 }
+}
+
+// A level ring at height y.
+fn level(radius: f32, y: f32) -> Ring
+    ensures { λ r. ⌜ r ≡ levelOf radius y ⌝ }
+{
+    let none = Point {
+        x: 0.0,
+        y: 0.0,
+        z: 0.0,
+    };
+    Ring {
+        order: Order::Level,
+        centre: Point { x: 0.0, y, z: 0.0 },
+        ex: none,
+        ey: none,
+        radius,
+    }
+}
+
+// The rings 0 to `layers`, each one step above the last, from place `at` on.
+fn write_levels(
+    out: &mut [f32],
+    at: usize,
+    radius: f32,
+    low: f32,
+    height: f32,
+    layers: u16,
+    n: u16,
+    table: &[f32],
+)
+    requires { ⌜ (layers ≤ 4096) × (at + (layers + 1) * (n * 3) ≤ length (now out)) × Directions n (now table) ⌝ }
+    ensures { λ _. ⌜ now (out .exit) ≡ overwrite at (cylinderRings radius low height layers n) (now (out .entry)) ⌝ }
+{
+    let step = height / layers as f32;
+    let size = n as usize * 3;
+    let mut place = at;
+    let mut g: u16 = 0;
+    while g <= layers {
+        write_ring(out, place, level(radius, low + step * g as f32), n, table);
+        place += size;
+        g += 1;
+    }
+}
+
+// The vertices of a closed cylinder, to the front of `out`.
+pub(crate) fn cylinder_closed_end_yup(
+    out: &mut [f32],
+    radius: f32,
+    height: f32,
+    n: u16,
+    layers: u16,
+    centred: bool,
+)
+    requires { ⌜ (n ≤ 256) × (layers ≤ 4096) × ((layers + 1) * (n * 3) + 6 ≤ length (now out)) ⌝ }
+    ensures { λ _. ⌜ now (out .exit) ≡ overwrite 0 (cylinderVertices radius height n layers centred) (now (out .entry)) ⌝ }
+{
+    let mut table = [0.0f32; TABLE];
+    fill_directions(n, &mut table);
+    let low = low(centred, height);
+    let top = 3 + (layers as usize + 1) * (n as usize * 3);
+    put_point(
+        out,
+        0,
+        Point {
+            x: 0.0,
+            y: low,
+            z: 0.0,
+        },
+    );
+    write_levels(out, 3, radius, low, height, layers, n, &table);
+    put_point(
+        out,
+        top,
+        Point {
+            x: 0.0,
+            y: low + height,
+            z: 0.0,
+        },
+    );
+}

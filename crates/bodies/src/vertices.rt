@@ -1,0 +1,76 @@
+ghost use mathlib.Core.Path.{_≡_};
+ghost use Prim.Native.Nat.{_*_, _/_, _≤_};
+ghost use lib.ListN.{length};
+ghost use Rattle.laws.specs.Overwrite.{overwrite, placed};
+ghost use Rattle.kinds.specs.Kinds.{vertexCount};
+ghost use Rattle.descriptions.specs.Descriptions.{topologyOf};
+ghost use Rattle.descriptions.specs.Refusals.{ShapePermitted};
+ghost use Rattle.bodies.specs.Bodies.{verticesOf, drawable};
+use crate::polyline3::set_vtx2xyz_for_generalized_cylinder_open_end;
+use crate::polyline3::to_trimesh3_capsule;
+use crate::polyline3::to_trimesh3_ribbon;
+use crate::polyloop3::to_trimesh3_torus;
+use crate::trimesh3_primitive::cylinder_closed_end_yup;
+use descriptions::Description;
+use descriptions::Verdict;
+
+// The vertices of a body that 10, 20 and 21 permit.
+fn fill(description: Description, curve: &[f32], out: &mut [f32])
+    requires { ⌜ ShapePermitted description (length (now curve) / 3) ⌝ }
+    requires { ⌜ 3 * vertexCount (topologyOf description (length (now curve) / 3)) ≤ length (now out) ⌝ }
+    ensures { λ _. ⌜ now (out .exit) ≡ overwrite 0 (verticesOf description (now (curve .entry))) (now (out .entry)) ⌝ }
+{
+    let count = curve.len() / 3;
+    match description {
+        Description::Ribbon { width } => to_trimesh3_ribbon(out, curve, (count - 1) as u16, width),
+        Description::Tube {
+            divisions: n,
+            radius,
+        } => {
+            set_vtx2xyz_for_generalized_cylinder_open_end(
+                out,
+                curve,
+                (count - 1) as u16,
+                n as u16,
+                radius,
+            )
+        }
+        Description::Capsule {
+            divisions: n,
+            longitudes: l,
+            radius,
+        } => { to_trimesh3_capsule(out, curve, (count - 1) as u16, n as u16, l as u16, radius) }
+        Description::Torus {
+            divisions: n,
+            radius,
+        } => { to_trimesh3_torus(out, curve, count as u16, n as u16, radius) }
+        Description::ClosedCylinder {
+            divisions: n,
+            layers,
+            centred,
+            radius,
+            length,
+        } => { cylinder_closed_end_yup(out, radius, length, n as u16, layers as u16, centred) }
+    }
+}
+
+// Writes the body's vertices to the front of `out`, whatever the floats of its sizes and its curve are. Where 10, 20 or 21 refuses it, or
+// `out` is too short, it answers false and writes nothing.
+pub fn write_vertices(description: Description, curve: &[f32], out: &mut [f32]) -> bool
+    ensures { λ r. ⌜ r ≡ drawable description (now (curve .entry)) (length (now (out .entry))) ⌝ }
+    ensures { λ r. ⌜ now (out .exit) ≡ placed r (verticesOf description (now (curve .entry))) (now (out .entry)) ⌝ }
+{
+    if curve.len() % 3 != 0 {
+        return false;
+    }
+    match description.shape(curve.len() / 3) {
+        Verdict::Refused(_) => false,
+        Verdict::Accepted(body) => {
+            if 3 * body.vertex_count() > out.len() as u64 {
+                return false;
+            }
+            fill(description, curve, out);
+            true
+        }
+    }
+}
