@@ -37,6 +37,10 @@ impl Point {
         Point::new(self.x + other.x, self.y + other.y, self.z + other.z)
     }
 
+    pub fn difference(self, other: Point) -> Point {
+        Point::new(self.x - other.x, self.y - other.y, self.z - other.z)
+    }
+
     pub fn times(self, factor: f32) -> Point {
         Point::new(self.x * factor, self.y * factor, self.z * factor)
     }

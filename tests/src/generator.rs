@@ -27,4 +27,24 @@ impl Generator {
     pub fn words(&mut self, count: usize) -> Vec<u32> {
         (0..count).map(|_| self.word()).collect()
     }
+
+    /// True once in so many times.
+    pub fn one_in(&mut self, times: u32) -> bool {
+        self.between(1, times) == 1
+    }
+
+    pub fn one_of<T: Copy>(&mut self, choices: &[T]) -> T {
+        choices[self.between(0, choices.len() as u32 - 1) as usize]
+    }
+
+    /// A number from -1 to 1.
+    pub fn unit(&mut self) -> f32 {
+        (self.word() as i32) as f32 / (1u32 << 31) as f32
+    }
+
+    /// 2 to a power from `low` to `high`, both included and both those of a normal f32.
+    pub fn power_of_two(&mut self, low: i32, high: i32) -> f32 {
+        let exponent = low + self.between(0, (high - low) as u32) as i32;
+        f32::from_bits(((exponent + 127) as u32) << 23)
+    }
 }

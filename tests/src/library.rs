@@ -1,6 +1,9 @@
 //! The proved functions of `libtogbefulo.a`, as safe functions over numbers and slices.
 
-use crate::topology::Body;
+use crate::{paper::description::Fields, topology::Body};
+
+/// What the library answers for a kind that is none of the paper's numbers.
+pub const UNKNOWN_KIND: u32 = u32::MAX;
 
 extern "C" {
     fn togbefulo_root(x: f32) -> f32;
@@ -39,6 +42,39 @@ extern "C" {
         out: *mut u32,
         len: usize,
     ) -> bool;
+    fn togbefulo_counts(
+        kind: u32,
+        divisions: u32,
+        longitudes: u32,
+        centred: bool,
+        size: f32,
+        length: f32,
+        vertices: usize,
+        counts: *mut [u32; 2],
+    ) -> u32;
+    fn togbefulo_check(
+        kind: u32,
+        divisions: u32,
+        longitudes: u32,
+        centred: bool,
+        size: f32,
+        length: f32,
+        curve: *const f32,
+        curve_len: usize,
+    ) -> u32;
+    fn togbefulo_vertices(
+        kind: u32,
+        divisions: u32,
+        longitudes: u32,
+        centred: bool,
+        size: f32,
+        length: f32,
+        curve: *const f32,
+        curve_len: usize,
+        out: *mut f32,
+        out_len: usize,
+    ) -> bool;
+    fn togbefulo_are_finite(values: *const f32, len: usize) -> bool;
 }
 
 // SAFETY of the calls on numbers: they take and return plain values and touch no memory of ours.
@@ -108,4 +144,62 @@ pub fn triangles(body: Body, first: u32, out: &mut [u32]) -> bool {
             ),
         }
     }
+}
+
+/// Writes vertex and triangle count where it answers 0, and nothing where it answers a refusal's number.
+pub fn counts(fields: Fields, vertices: usize, counts: &mut [u32; 2]) -> u32 {
+    // SAFETY: `counts` is held by nobody else during the call; the rest are plain values.
+    unsafe {
+        togbefulo_counts(
+            fields.kind,
+            fields.divisions,
+            fields.longitudes,
+            fields.centred,
+            fields.size,
+            fields.length,
+            vertices,
+            counts,
+        )
+    }
+}
+
+/// Answers 0 or the number of the first refusal of a description and its curve.
+pub fn check(fields: Fields, curve: &[f32]) -> u32 {
+    // SAFETY: pointer and length are those of one slice, which the call only reads.
+    unsafe {
+        togbefulo_check(
+            fields.kind,
+            fields.divisions,
+            fields.longitudes,
+            fields.centred,
+            fields.size,
+            fields.length,
+            curve.as_ptr(),
+            curve.len(),
+        )
+    }
+}
+
+/// Writes the body's vertices to the front of `out`, or answers false.
+pub fn vertices(fields: Fields, curve: &[f32], out: &mut [f32]) -> bool {
+    // SAFETY: each pointer and length are those of one slice; nobody else holds `out` during the call.
+    unsafe {
+        togbefulo_vertices(
+            fields.kind,
+            fields.divisions,
+            fields.longitudes,
+            fields.centred,
+            fields.size,
+            fields.length,
+            curve.as_ptr(),
+            curve.len(),
+            out.as_mut_ptr(),
+            out.len(),
+        )
+    }
+}
+
+pub fn are_finite(values: &[f32]) -> bool {
+    // SAFETY: pointer and length are those of one slice, which the call only reads.
+    unsafe { togbefulo_are_finite(values.as_ptr(), values.len()) }
 }

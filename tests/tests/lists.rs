@@ -2,10 +2,11 @@
 //! refuse, and what demand 3 says about their edges.
 
 use togbefulo_tests::{
-    bodies, del_msh, edges,
+    adapted, bodies, edges,
     edges::EdgeCounts,
     generator::Generator,
     library,
+    paper::description::Description,
     topology::{Body, LARGEST_TOTAL},
 };
 
@@ -99,33 +100,47 @@ fn all_bodies() -> Vec<Body> {
     all
 }
 
-/// The source's list; its open curves have one vertex more than segments.
+/// The source's list. The source works out the vertices with it, so it gets a straight curve and sizes of 1.
 fn del_msh_triangles(body: Body) -> Vec<[usize; 3]> {
-    let size = |number: u32| number as usize;
+    let (description, vertices) = described(body);
+    let curve: Vec<f32> = (0..vertices).flat_map(|x| [x as f32, 0.0, 0.0]).collect();
+    adapted::body(description, &curve).0
+}
+
+/// A description of the body, and how many vertices its curve has: of an open one, more than segments by one.
+fn described(body: Body) -> (Description, u32) {
+    let (radius, length) = (1.0, 1.0);
     match body {
-        Body::Ribbon { segments } => del_msh::to_trimesh3_ribbon(size(segments) + 1),
+        Body::Ribbon { segments } => (Description::Ribbon { width: 1.0 }, segments + 1),
         Body::Tube {
             divisions,
             segments,
-        } => {
-            let (divisions, segments) = (size(divisions), size(segments));
-            let (num_tri, _) =
-                del_msh::cylinder_open_end_number_of_tri_and_vtx(divisions, segments);
-            let mut tri2vtx = vec![[0; 3]; num_tri];
-            del_msh::cylinder_open_end_set_topology(&mut tri2vtx, segments + 1);
-            tri2vtx
-        }
+        } => (Description::Tube { divisions, radius }, segments + 1),
         Body::Capsule {
             divisions,
             longitudes,
             segments,
-        } => del_msh::to_trimesh3_capsule(size(segments) + 1, size(divisions), size(longitudes)),
+        } => {
+            let capsule = Description::Capsule {
+                divisions,
+                longitudes,
+                radius,
+            };
+            (capsule, segments + 1)
+        }
         Body::Torus {
             divisions,
             vertices,
-        } => del_msh::to_trimesh3_torus(size(vertices), size(divisions)),
+        } => (Description::Torus { divisions, radius }, vertices),
         Body::ClosedCylinder { divisions, layers } => {
-            del_msh::cylinder_closed_end_yup(size(divisions), size(layers))
+            let cylinder = Description::ClosedCylinder {
+                divisions,
+                layers,
+                centred: false,
+                radius,
+                length,
+            };
+            (cylinder, 0)
         }
     }
 }

@@ -2,8 +2,13 @@
 //! that the other tests compare them with.
 
 use togbefulo_tests::{
+    adapted,
     arithmetic::{self, word},
     edges, library,
+    paper::{
+        curve,
+        description::{Description, Fields},
+    },
     topology::Body,
 };
 
@@ -89,4 +94,60 @@ fn ribbon_of_one_segment() {
     let list = list(Body::Ribbon { segments: 1 }, 4, 2);
     assert_eq!(list, [0, 1, 2, 1, 3, 2]);
     assert_eq!(edges::count(&list, 4).unmatched, 4);
+}
+
+/// Fields of three divisions, of no longitudes and of size 2, with all others 0.
+fn fields(kind: u32) -> Fields {
+    Fields {
+        kind,
+        divisions: 3,
+        longitudes: 0,
+        centred: false,
+        size: 2.0,
+        length: 0.0,
+    }
+}
+
+/// What the library and the reading answer alike.
+fn answer(kind: u32, curve: &[f32]) -> u32 {
+    let answer = library::check(fields(kind), curve);
+    let description = Description::of(fields(kind)).expect("a kind of the paper");
+    let reading = curve::check(description, curve).map_or_else(|refusal| refusal as u32, |()| 0);
+    assert_eq!(answer, reading, "kind {kind}, {curve:?}");
+    answer
+}
+
+#[test]
+fn capsules_without_longitudes_are_counted_from_three_segments_on() {
+    let mut counts = [0; 2];
+    assert_eq!(library::counts(fields(3), 4, &mut counts), 0);
+    assert_eq!(counts, [8, 12]);
+    assert_eq!(library::counts(fields(3), 3, &mut counts), 21);
+}
+
+#[test]
+fn shortest_segments_along_the_axes() {
+    let shortest = 1.0 / (1 << 20) as f32;
+    for kind in [1, 2] {
+        for axis in 3..6 {
+            let mut curve = [0.0; 6];
+            curve[axis] = shortest;
+            assert_eq!(answer(kind, &curve), 0, "axis {axis}");
+            curve[axis] = shortest / 2.0;
+            assert_eq!(answer(kind, &curve), 12, "axis {axis}");
+        }
+    }
+}
+
+/// The floats of the ribbon that the paper feeds to `sweep`.
+#[test]
+fn floats_of_the_sampled_ribbon() {
+    let curve = [0.0, 0.0, 0.0, 0.0, 0.0, 1.0];
+    let expected = [0.0, 0.0, 0.0, 2.0, 0.0, 0.0, 0.0, 0.0, 1.0, 2.0, 0.0, 1.0];
+    let mut vertices = [1.0; 12];
+    assert!(library::vertices(fields(1), &curve, &mut vertices));
+    let (_, source) = adapted::body(Description::Ribbon { width: 2.0 }, &curve);
+    for floats in [&vertices[..], source.as_flattened()] {
+        assert!(floats.iter().map(|&x| word(x)).eq(expected.map(word)));
+    }
 }

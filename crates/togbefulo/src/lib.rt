@@ -1,3 +1,4 @@
 // The proved core as C functions, for other languages to link.
+mod alone;
 mod arithmetic;
 mod lists;

@@ -1,6 +1,4 @@
-//! The triangle lists of nobuyuki83/del-msh at commit cab8861116, adapted as little as possible:
-//! `Index` is `usize`, vertex coordinates are left out, and a curve is given by its vertex count.
-//! Names, loops and expressions are those of the source, to be held beside it.
+//! Of the source's trimesh3_primitive.rs: the open cylinder's triangles, and the closed cylinder.
 //!
 //! MIT License
 //!
@@ -24,7 +22,9 @@
 //! OUT OF OR IN CONNECTION WITH THE SOFTWARE OR THE USE OR OTHER DEALINGS IN THE
 //! SOFTWARE.
 
-/// trimesh3_primitive.rs
+use super::del_geo_core::angle::TAU;
+
+/// this function is for external allocation of memory
 pub fn cylinder_open_end_number_of_tri_and_vtx(
     ndiv_circumference: usize,
     ndiv_side: usize,
@@ -34,7 +34,6 @@ pub fn cylinder_open_end_number_of_tri_and_vtx(
     (num_tri, num_vtx)
 }
 
-/// trimesh3_primitive.rs
 pub fn cylinder_open_end_set_topology(tri2vtx: &mut [[usize; 3]], num_vtxc: usize) {
     let ndiv_side = num_vtxc - 1;
     let ndiv_circumference = tri2vtx.len() / (2 * ndiv_side);
@@ -56,7 +55,6 @@ pub fn cylinder_open_end_set_topology(tri2vtx: &mut [[usize; 3]], num_vtxc: usiz
     }
 }
 
-/// trimesh3_primitive.rs
 #[allow(clippy::identity_op)]
 fn cylinder_closed_end_topology(ndiv_side: usize, ndiv_circumference: usize) -> Vec<[usize; 3]> {
     let ndiv_longtitude = ndiv_side + 2;
@@ -84,50 +82,40 @@ fn cylinder_closed_end_topology(ndiv_side: usize, ndiv_circumference: usize) -> 
     tri2vtx
 }
 
-/// trimesh3_primitive.rs
-pub fn cylinder_closed_end_yup(ndiv_circumference: usize, ndiv_length: usize) -> Vec<[usize; 3]> {
+/// generate 3D mesh of closed cylinder
+/// * `radius` - radius
+/// * 'length' - length
+pub fn cylinder_closed_end_yup(
+    radius: f32,
+    length: f32,
+    ndiv_circumference: usize,
+    ndiv_length: usize,
+    is_center: bool,
+) -> (Vec<[usize; 3]>, Vec<[f32; 3]>) {
+    let num_vtx = ndiv_circumference * (ndiv_length + 1) + 2;
+    let mut vtx2xyz = vec![[0f32; 3]; num_vtx];
     assert!(ndiv_length >= 1);
     assert!(ndiv_circumference > 2);
-    cylinder_closed_end_topology(ndiv_length, ndiv_circumference)
-}
-
-/// polyline3.rs
-pub fn to_trimesh3_capsule(
-    num_vtxl: usize,
-    ndiv_circum: usize,
-    ndiv_longtitude: usize,
-) -> Vec<[usize; 3]> {
-    assert!(ndiv_circum > 2);
-    let ndiv_length = num_vtxl - 1;
-    cylinder_closed_end_yup(ndiv_circum, 2 * ndiv_longtitude + ndiv_length - 2)
-}
-
-/// polyline3.rs
-pub fn to_trimesh3_ribbon(num_vtxl: usize) -> Vec<[usize; 3]> {
-    let num_tri = (num_vtxl - 1) * 2;
-    let mut tri2vtx = vec![[0usize; 3]; num_tri];
-    for i_vtxl in 0..num_vtxl - 1 {
-        tri2vtx[i_vtxl * 2] = [i_vtxl * 2, i_vtxl * 2 + 1, i_vtxl * 2 + 2];
-        tri2vtx[i_vtxl * 2 + 1] = [i_vtxl * 2 + 1, i_vtxl * 2 + 3, i_vtxl * 2 + 2];
-    }
-    tri2vtx
-}
-
-/// polyloop3.rs
-pub fn to_trimesh3_torus(num_vtx: usize, ndiv_circum: usize) -> Vec<[usize; 3]> {
-    let n = ndiv_circum;
-    let mut tri2pnt = Vec::<[usize; 3]>::new();
-    for iseg in 0..num_vtx {
-        let ipnt0 = iseg;
-        let ipnt1 = (ipnt0 + 1) % num_vtx;
-        for i in 0..n {
-            tri2pnt.push([ipnt0 * n + i, ipnt0 * n + (i + 1) % n, ipnt1 * n + i]);
-            tri2pnt.push([
-                ipnt1 * n + (i + 1) % n,
-                ipnt1 * n + i,
-                ipnt0 * n + (i + 1) % n,
-            ]);
+    let zero = 0f32;
+    let two = 1f32 + 1f32;
+    let half = 1f32 / two;
+    let dl: f32 = length / ndiv_length as f32;
+    let dr = TAU / ndiv_circumference;
+    let y_min = if is_center { -length * half } else { zero };
+    // bottom
+    vtx2xyz[0] = [zero, y_min, zero];
+    for il in 0..ndiv_length + 1 {
+        let y0 = y_min + dl * il as f32;
+        for ilo in 0..ndiv_circumference {
+            let x0 = radius * (dr * ilo).cos();
+            let z0 = radius * (dr * ilo).sin();
+            let i_vtx = il * ndiv_circumference + ilo + 1;
+            vtx2xyz[i_vtx] = [x0, y0, z0];
         }
     }
-    tri2pnt
+    // top
+    vtx2xyz[num_vtx - 1] = [zero, y_min + length, zero];
+    // ------------------------------------
+    let tri2vtx = cylinder_closed_end_topology(ndiv_length, ndiv_circumference);
+    (tri2vtx, vtx2xyz)
 }
