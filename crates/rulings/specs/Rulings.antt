@@ -85,7 +85,8 @@ pub record Rulings : Type 0 where
   pub m8 : AlongAxes 0x3580_0000 (accepted ribbon) × AlongAxes 0x3500_0000 (refused 12)
 
 pub rulings : Rulings
-unfolding turnOf directionOf partOf inOctant sineOf cosineOf bracket fraction minusFraction whole rootOf rootOfUnits wholeRoot rootDigits add sub mul div neg le lt ofInt ofBits toBits sizePermitted allFinite segmentsPermitted segmentRefused foldsPermitted segmentOf vertexOf differenceOf dotOf
+unfolding turnOf directionOf partOf inOctant sineOf cosineOf bracket fraction minusFraction whole rootOf rootOfUnits wholeRoot rootDigits add sub
+    mul div neg le lt ofInt ofBits toBits sizePermitted allFinite segmentsPermitted segmentRefused foldsPermitted segmentOf vertexOf differenceOf dotOf
 rulings = record {
   m1 = ((refl, refl), (refl, refl), (refl, refl));
   m2 = (refl, refl);
