@@ -6,3 +6,4 @@ pub mod Shift
 pub mod Squares
 pub mod UnitPatterns
 pub mod RootLaw
+pub mod ZeroCounts

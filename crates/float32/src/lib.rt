@@ -3,9 +3,11 @@ mod near;
 mod roots;
 mod scan;
 mod words;
+mod zeros;
 
 pub use roots::root;
 pub use scan::are_finite;
 pub use words::from_word;
 pub use words::is_finite;
 pub use words::to_word;
+pub use zeros::fill_zeros;

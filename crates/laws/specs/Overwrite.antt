@@ -67,7 +67,7 @@ module _ {ℓ} {A : Type ℓ} where
   overwrite-past (suc at) new (x ∷ old) h = ap (λ (r : List A). x ∷ r) (overwrite-past at new old (le-of-suc-le-suc h))
 
   -- stores one after the other, as straight-line code makes them
-  stores : (p : ℕ) (vs old : List A) → sets old p vs ≡ overwrite p vs old
+  pub stores : (p : ℕ) (vs old : List A) → sets old p vs ≡ overwrite p vs old
   stores p [] old = sym (overwrite-none p old)
   stores p (v ∷ vs) old = stores (suc p) vs (set old p v) ∙ overwrite-cons p v vs old
 
