@@ -20,6 +20,11 @@ abbrev pub isAccepted : {A : Type 0} → Answer A → Bool
 isAccepted (refused number) = false
 isAccepted (accepted a) = true
 
+-- "Refusals return their number": it, and 0 where nothing is refused
+abbrev pub numberIn : {A : Type 0} → Answer A → ℕ
+numberIn (refused number) = number
+numberIn (accepted a) = 0
+
 -- A refusal by its number, and whether what it looks at is permitted.
 pub record Test : Type 0 where
   pub number : ℕ

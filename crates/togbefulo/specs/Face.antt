@@ -6,7 +6,7 @@ use Prim.Native.Nat.{ℕ}
 use lib.Ieee.{Float}
 use lib.ListN.{length}
 use Rattle.laws.specs.Overwrite.{overwrite}
-use Rattle.descriptions.specs.Answers.{Answer, refused, accepted, Counts}
+use Rattle.descriptions.specs.Answers.{Answer, refused, accepted, numberIn, Counts}
 use Rattle.descriptions.specs.Refusals.{countsOf, checkedOf}
 use Rattle.descriptions.specs.declared.kind.Described.{Described}
 use Rattle.descriptions.specs.declared.kind.Described.the-variants.{Known, Unknown}
@@ -14,10 +14,6 @@ use Rattle.bodies.specs.Bodies.{verticesOf, drawable}
 
 abbrev pub unknownKind : ℕ
 unknownKind = 0xFFFF_FFFF
-
-abbrev pub numberIn : {A : Type 0} → Answer A → ℕ
-numberIn (refused number) = number
-numberIn (accepted a) = 0
 
 abbrev pub checkNumber : Described → List Float → ℕ
 checkNumber (Known d) c = numberIn (checkedOf d c)

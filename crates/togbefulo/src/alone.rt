@@ -4,15 +4,15 @@
 ghost use mathlib.Core.Path.{_≡_};
 ghost use Rattle.float32.specs.Scan.{allFinite};
 ghost use Rattle.laws.specs.Overwrite.{placed};
-ghost use Rattle.descriptions.specs.Answers.{verdictAnswer, countedAnswer};
+ghost use Rattle.descriptions.specs.Answers.{numberIn, verdictAnswer, countedAnswer};
 ghost use Rattle.descriptions.specs.KindNumbers.{describedOf};
-ghost use Rattle.togbefulo.specs.Face.{numberIn, checkNumber, countsNumber, countsIn, countsAfter, isDrawn, drawnVertices};
+ghost use Rattle.togbefulo.specs.Face.{checkNumber, countsNumber, countsIn, countsAfter, isDrawn, drawnVertices};
 use descriptions::Counted;
 use descriptions::Described;
 use descriptions::Verdict;
 use descriptions::of_kind;
 
-const UNKNOWN_KIND: u32 = 0xffff_ffff;
+pub(crate) const UNKNOWN_KIND: u32 = 0xffff_ffff;
 
 fn number(verdict: Verdict) -> u32
     ensures { λ r. ⌜ r ≡ numberIn (verdictAnswer verdict) ⌝ }

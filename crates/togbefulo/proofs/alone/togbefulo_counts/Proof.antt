@@ -1,7 +1,8 @@
 -- A known kind answers as its description does. Assumes nothing.
 use mathlib.Core.Path.{sym, ap, _∙_}
 use denote.Ref.{now}
-use Rattle.togbefulo.specs.Face.{numberIn, countsNumber, countsIn, countsAfter}
+use Rattle.descriptions.specs.Answers.{numberIn}
+use Rattle.togbefulo.specs.Face.{countsNumber, countsIn, countsAfter}
 use borrow.Author.Needs.{needs}
 use Rattle.togbefulo.proofs.alone.togbefulo_counts.Statement.{statement}
 use Rattle.togbefulo.proofs.alone.togbefulo_counts.Tie as tie
