@@ -1,0 +1,5 @@
+pub mod Tables
+pub mod Counts
+pub mod Fitting
+pub mod Additions
+pub mod Files

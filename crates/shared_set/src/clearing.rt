@@ -1,0 +1,17 @@
+ghost use mathlib.Core.Path.{_≡_};
+ghost use Rattle.shared_set.specs.Answers.{outcomeAnswer};
+ghost use Rattle.shared_set.specs.Set.{clearAnswer, cleared};
+use crate::answers::Outcome;
+use crate::answers::Why;
+
+// Word 0 becomes 0, whatever the table holds; 1 for an empty one.
+pub fn clear(table: &mut [u32]) -> Outcome
+    ensures { λ r. ⌜ outcomeAnswer r ≡ clearAnswer (now (table .entry)) ⌝ }
+    ensures { λ _. ⌜ now (table .exit) ≡ cleared (now (table .entry)) ⌝ }
+{
+    if table.len() == 0 {
+        return Outcome::Refused(Why::DamagedTable);
+    }
+    table[0] = 0;
+    Outcome::Accepted
+}
