@@ -1,0 +1,95 @@
+-- The ledger that demand 3 compares with: document 01, the last paragraphs of 'Frames and vertices'. It is fed the buffers' lengths and the
+-- additions; it knows no table and no call. Definitions only.
+use mathlib.Core.Bool.{cond}
+use mathlib.Core.List.{List, [], _∷_, _++_}
+use Prim.Native.Nat.{ℕ, _+_, _*_}
+use lib.Dec.{eqb}
+use lib.Ieee.{Float}
+use lib.ListN.{length}
+use Rattle.laws.specs.Overwrite.{overwrite}
+use Rattle.float32.specs.Zeros.{zeros}
+use Rattle.surface.specs.Triangles.{flatten, shift}
+use Rattle.descriptions.specs.Answers.{Answer, refused, accepted, firstOf}
+use Rattle.descriptions.specs.declared.description.Description.{Description}
+use Rattle.shared_set.specs.Bodies.{Body, vertexCountIn, triangleCountIn, bodyAlone}
+use Rattle.shared_set.specs.Additions.{Lengths, additionTests}
+use Rattle.shared_set.specs.declared.totals.Totals.{Totals}
+
+-- "a list of bodies, empty after the clear", which grows at its end
+pub data Ledger : Type 0 where
+  empty : Ledger
+  then : Ledger → Body → Ledger
+
+-- "the number of bodies in the ledger"
+abbrev pub bodyCount : Ledger → ℕ
+bodyCount empty = 0
+bodyCount (then L b) = bodyCount L + 1
+
+-- "the totals the sums of their counts"
+abbrev pub vertexSum : Ledger → ℕ
+vertexSum empty = 0
+vertexSum (then L b) = vertexSum L + vertexCountIn b
+
+abbrev pub triangleSum : Ledger → ℕ
+triangleSum empty = 0
+triangleSum (then L b) = triangleSum L + triangleCountIn b
+
+abbrev pub totalsOf : Ledger → Totals
+totalsOf L = record { bodies = bodyCount L; vertices = vertexSum L; triangles = triangleSum L }
+
+-- "of each addition, the arguments other than the buffers"
+pub record Addition : Type 0 where
+  pub description : Description
+  pub curve : List Float
+
+abbrev pub aloneOf : Addition → Body
+aloneOf a = bodyAlone (a .description) (a .curve)
+
+-- "An addition gets the first refusal, in add's order, whose condition holds .. 1 doesn't arise."
+unfoldable pub replyTo : Lengths → Ledger → Addition → Answer (Unit {0})
+replyTo room L a = firstOf (additionTests room (totalsOf L) (a .description) (a .curve)) tt
+
+-- "Refused, it leaves the ledger as it is. Otherwise its body alone goes to the end, with its kind and n."
+abbrev pub entered : Ledger → Addition → Answer (Unit {0}) → Ledger
+entered L a (refused number) = L
+entered L a (accepted u) = then L (aloneOf a)
+
+-- the answers to a list of additions, and the ledger behind it
+abbrev pub repliesTo : Lengths → Ledger → List Addition → List (Answer (Unit {0}))
+repliesTo room L [] = []
+repliesTo room L (a ∷ rest) = replyTo room L a ∷ repliesTo room (entered L a (replyTo room L a)) rest
+
+abbrev pub final : Lengths → Ledger → List Addition → Ledger
+final room L [] = L
+final room L (a ∷ rest) = final room (entered L a (replyTo room L a)) rest
+
+-- "The ledger's set is word 0, the number of its bodies; an entry for each, its first vertex and first triangle being the sums of the counts
+-- before it"
+abbrev pub entriesOf : Ledger → List ℕ
+entriesOf empty = []
+entriesOf (then L b) =
+    entriesOf L ++ (b .kind ∷ b .divisions ∷ vertexSum L ∷ vertexCountIn b ∷ triangleSum L ∷ triangleCountIn b ∷ [])
+
+abbrev pub setTable : Ledger → List ℕ
+setTable L = bodyCount L ∷ entriesOf L
+
+-- "all their vertices in order"
+abbrev pub setVertices : Ledger → List Float
+setVertices empty = []
+setVertices (then L b) = setVertices L ++ b .vertices
+
+-- "all their triangles in order, each index with its body's first vertex added"
+abbrev pub setTriangles : Ledger → List ℕ
+setTriangles empty = []
+setTriangles (then L b) = setTriangles L ++ flatten (shift (vertexSum L) (b .triangles))
+
+-- What was in the vertex buffer when the list began, "with +0 in the vertex stretch of each 23": the stretch that the vertices would have
+-- had is behind the ledger's.
+abbrev pub stainedBy : Ledger → Addition → Answer (Unit {0}) → List Float → List Float
+stainedBy L a (refused number) held =
+    cond (eqb number 23) (overwrite (3 * vertexSum L) (zeros (length (aloneOf a .vertices))) held) held
+stainedBy L a (accepted u) held = held
+
+abbrev pub stained : Lengths → Ledger → List Addition → List Float → List Float
+stained room L [] held = held
+stained room L (a ∷ rest) held = stained room (entered L a (replyTo room L a)) rest (stainedBy L a (replyTo room L a) held)

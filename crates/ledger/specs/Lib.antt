@@ -1,0 +1,4 @@
+pub mod Ledger
+pub mod Calls
+pub mod Demand3
+pub mod File
