@@ -1,0 +1,3 @@
+pub mod Additions
+pub mod Floats
+pub mod Progress

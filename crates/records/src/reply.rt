@@ -1,0 +1,7 @@
+use shared_set::Outcome;
+
+// What one record got: it was skipped, being none or of no kind, or its addition was answered.
+pub enum Reply {
+    Skipped,
+    Answered(Outcome),
+}
