@@ -1,0 +1,95 @@
+-- No turn of the loop changes a buffer's length, and the count ends it. Assumes nothing.
+use mathlib.Core.Path.{_≡_}
+use Prim.Native.Nat.{_-_}
+use native.Mathlib.Omega.{arith}
+use borrow.Author.Needs.{needs}
+use lib.ListN.{length, length-take}
+use Rattle.sweep.proofs.input.add_records.Statement.{statement}
+use Rattle.sweep.proofs.input.add_records.Tie as tie
+
+abbrev Inv-loop : tie.InvT-loop
+Inv-loop table₀ vertices₀ triangles₀ bytes₀ words₀ count₀ table vertices triangles bytes words count =
+    (6172 ≡ length bytes) × (1543 ≡ length words)
+    × (length table ≡ length table₀) × (length vertices ≡ length vertices₀) × (length triangles ≡ length triangles₀)
+
+abbrev μ-loop : tie.MeasureT-loop
+μ-loop table₀ vertices₀ triangles₀ bytes₀ words₀ count₀ table vertices triangles bytes words count = 18446744073709551615 - count
+
+slice-aggregate-bytes : tie.Need-slice-aggregate-bytes Inv-loop μ-loop
+slice-aggregate-bytes c = search needs
+
+slice-aggregate-words : tie.Need-slice-aggregate-words Inv-loop μ-loop
+slice-aggregate-words c = search needs
+
+loop-holds : tie.Need-loop-holds Inv-loop μ-loop
+loop-holds c = omega arith
+
+read-record-requires : tie.Need-read-record-requires Inv-loop μ-loop
+read-record-requires c κs = omega arith
+
+same-length : tie.Need-same-length Inv-loop μ-loop
+same-length c = search needs
+
+same-length-2 : tie.Need-same-length-2 Inv-loop μ-loop
+same-length-2 c = search needs
+
+same-length-3 : tie.Need-same-length-3 Inv-loop μ-loop
+same-length-3 c = search needs
+
+returns : tie.Need-returns Inv-loop μ-loop
+returns c = search needs
+
+slice-reshare-prefix-add-first : tie.Need-slice-reshare-prefix-add-first Inv-loop μ-loop
+slice-reshare-prefix-add-first c = omega arith
+
+slice-aggregate-add-first : tie.Need-slice-aggregate-add-first Inv-loop μ-loop
+slice-aggregate-add-first c = simp length-take (omega arith)
+
+add-first-requires : tie.Need-add-first-requires Inv-loop μ-loop
+add-first-requires c κs = search needs
+
+add-count : tie.Need-add-count Inv-loop μ-loop
+add-count c = omega arith
+
+loop-less : tie.Need-loop-less Inv-loop μ-loop
+loop-less c = omega arith
+
+loop-again : tie.Need-loop-again Inv-loop μ-loop
+loop-again c = omega arith
+
+same-length-4 : tie.Need-same-length-4 Inv-loop μ-loop
+same-length-4 c = search needs
+
+same-length-5 : tie.Need-same-length-5 Inv-loop μ-loop
+same-length-5 c = search needs
+
+same-length-6 : tie.Need-same-length-6 Inv-loop μ-loop
+same-length-6 c = search needs
+
+returns-2 : tie.Need-returns-2 Inv-loop μ-loop
+returns-2 c = search needs
+
+pub add-records-spec : {M : Type 1} → statement M
+add-records-spec =
+    tie.close
+    (tie.spec
+    Inv-loop
+    μ-loop
+    slice-aggregate-bytes
+    slice-aggregate-words
+    loop-holds
+    read-record-requires
+    same-length
+    same-length-2
+    same-length-3
+    returns
+    slice-reshare-prefix-add-first
+    slice-aggregate-add-first
+    add-first-requires
+    add-count
+    loop-less
+    loop-again
+    same-length-4
+    same-length-5
+    same-length-6
+    returns-2)

@@ -1,0 +1,92 @@
+-- Each turn of the loop stores one word of the file behind the last, until none is left, or no room. Assumes nothing.
+use Prim.Native.Nat.{_-_}
+use native.Mathlib.Omega.{arith}
+use borrow.Author.Needs.{needs}
+use denote.Ref.{now}
+use lib.ListN.{length}
+use Rattle.shared_set.specs.Set.{buffers}
+use Rattle.sweep.specs.Pieces.{fileFrom}
+use Rattle.sweep.proofs.Rest.{word-told, end-told, Filled, none-filled, one-filled, no-word-left, no-room-left}
+use Rattle.sweep.proofs.output.fill_file.Statement.{statement}
+use Rattle.sweep.proofs.output.fill_file.Tie as tie
+
+abbrev Inv-loop : tie.InvT-loop
+Inv-loop table vertices triangles place out₀ i₀ out i = Filled (fileFrom (buffers table vertices triangles) place) out₀ i out
+
+abbrev μ-loop : tie.MeasureT-loop
+μ-loop table vertices triangles place out₀ i₀ out i = length out₀ - i
+
+loop-holds : tie.Need-loop-holds Inv-loop μ-loop
+loop-holds c = none-filled _ _
+
+add-file-word : tie.Need-add-file-word Inv-loop μ-loop
+add-file-word c = omega arith
+
+file-word-requires : tie.Need-file-word-requires Inv-loop μ-loop
+file-word-requires c κs = search needs
+
+enum-told : tie.Need-enum-told Inv-loop μ-loop
+enum-told c = search needs
+
+same-length : tie.Need-same-length Inv-loop μ-loop
+same-length c = search needs
+
+returns : tie.Need-returns Inv-loop μ-loop
+returns c =
+    let found = c .before .before in
+    let l = found .before .before .loop in
+    let a = found .before .before .before .before .before .before .before .args in
+    let s = buffers (now (a .table)) (now (a .vertices)) (now (a .triangles)) in
+    let refused = rw (c .enum-told .given .1) at (found .file-word .ensures) in
+    no-word-left (fileFrom s (a .place)) (now (a .out)) (l .inv) (end-told s (a .place) (l .i) refused)
+
+enum-known-w : tie.Need-enum-known-w Inv-loop μ-loop
+enum-known-w c = search needs
+
+mul-out : tie.Need-mul-out Inv-loop μ-loop
+mul-out c = omega arith
+
+slice-write-out : tie.Need-slice-write-out Inv-loop μ-loop
+slice-write-out c = omega arith
+
+add-i : tie.Need-add-i Inv-loop μ-loop
+add-i c = omega arith
+
+loop-less : tie.Need-loop-less Inv-loop μ-loop
+loop-less c = omega arith
+
+loop-again : tie.Need-loop-again Inv-loop μ-loop
+loop-again c =
+    let found = c .before .before .before in
+    let l = found .before .before .loop in
+    let a = found .before .before .before .before .before .before .before .args in
+    let s = buffers (now (a .table)) (now (a .vertices)) (now (a .triangles)) in
+    let word = word-told s (a .place) (l .i) (rw (c .before .w .given .1) at (found .file-word .ensures)) in
+    one-filled (fileFrom s (a .place)) (now (a .out)) (l .inv) (found .before .loop-test .taken) (word .0) (word .1)
+
+same-length-2 : tie.Need-same-length-2 Inv-loop μ-loop
+same-length-2 c = search needs
+
+returns-2 : tie.Need-returns-2 Inv-loop μ-loop
+returns-2 c = no-room-left _ _ (c .before .loop .inv) (c .loop-test .left)
+
+pub fill-file-spec : {M : Type 1} → statement M
+fill-file-spec =
+    tie.close
+    (tie.spec
+    Inv-loop
+    μ-loop
+    loop-holds
+    add-file-word
+    file-word-requires
+    enum-told
+    same-length
+    returns
+    enum-known-w
+    mul-out
+    slice-write-out
+    add-i
+    loop-less
+    loop-again
+    same-length-2
+    returns-2)
