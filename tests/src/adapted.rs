@@ -2,7 +2,7 @@
 
 use crate::{
     del_msh::{polyline3, polyloop3, trimesh3_primitive},
-    paper::description::Description,
+    paper::{description::Description, ledger::Alone},
 };
 
 /// Triangles with local indices, and vertices.
@@ -53,4 +53,14 @@ fn tube(curve: &[[f32; 3]], divisions: usize, radius: f32) -> TriMesh {
     trimesh3_primitive::cylinder_open_end_set_topology(&mut tri2vtx, curve.len());
     polyline3::set_vtx2xyz_for_generalized_cylinder_open_end(&mut vtx2xyz, curve, radius);
     (tri2vtx, vtx2xyz)
+}
+
+/// The body as the ledger holds it.
+pub fn alone(description: Description, curve: &[f32]) -> Alone {
+    let (triangles, vertices) = body(description, curve);
+    let narrowed = |triangle: [usize; 3]| triangle.map(|index| index as u32);
+    Alone {
+        vertices,
+        triangles: triangles.into_iter().map(narrowed).collect(),
+    }
 }

@@ -5,22 +5,9 @@ use crate::{
     generator::Generator,
     paper::{
         curve,
-        description::{Description, Fields},
+        description::{Fields, Input},
     },
 };
-
-/// What an addition takes beside the buffers.
-#[derive(Clone, Debug)]
-pub struct Input {
-    pub fields: Fields,
-    pub curve: Vec<f32>,
-}
-
-impl Input {
-    pub fn description(&self) -> Description {
-        Description::of(self.fields).expect("a kind of the paper")
-    }
-}
 
 /// The paper's kinds.
 pub const KINDS: [(u32, &str); 5] = [

@@ -1,5 +1,9 @@
 //! The proved functions of `libtogbefulo.a`, as safe functions over numbers and slices.
 
+mod set;
+
+pub use set::{add, build, clear, file_word};
+
 use crate::{paper::description::Fields, topology::Body};
 
 /// What the library answers for a kind that is none of the paper's numbers.

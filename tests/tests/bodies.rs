@@ -7,10 +7,10 @@ use togbefulo_tests::{
     arithmetic::word,
     census::Census,
     generator::Generator,
-    inputs::{self, Extent, Input, KINDS},
+    inputs::{self, Extent, KINDS},
     library,
     paper::{
-        description::{Description, Fields},
+        description::{Description, Fields, Input},
         vertices::vertices,
     },
 };

@@ -2,3 +2,4 @@
 mod alone;
 mod arithmetic;
 mod lists;
+mod set;

@@ -2,9 +2,14 @@
 
 use crate::topology::Body;
 
-/// The paper's numbers of what can be said against a description and its curve.
+/// The paper's numbers of what is refused.
 #[derive(Clone, Copy, Debug, PartialEq, Eq, PartialOrd, Ord)]
 pub enum Refusal {
+    DamagedTable = 1,
+    NoFurtherEntry = 2,
+    VertexRoom = 3,
+    TriangleRoom = 4,
+    FileEnd = 5,
     CurveLength = 10,
     NotFinite = 11,
     SegmentLength = 12,
@@ -12,6 +17,12 @@ pub enum Refusal {
     Divisions = 20,
     Lengthwise = 21,
     Size = 22,
+    VertexNotFinite = 23,
+}
+
+/// The paper's number of an answer, and 0 where nothing is refused.
+pub fn number(answer: Result<(), Refusal>) -> u32 {
+    answer.map_or_else(|refusal| refusal as u32, |()| 0)
 }
 
 /// What a caller hands over of a description. A kind reads its own fields and ignores the others.
@@ -25,6 +36,19 @@ pub struct Fields {
     /// The width of a ribbon, the radius of the others.
     pub size: f32,
     pub length: f32,
+}
+
+/// What an addition takes beside the buffers.
+#[derive(Clone, Debug)]
+pub struct Input {
+    pub fields: Fields,
+    pub curve: Vec<f32>,
+}
+
+impl Input {
+    pub fn description(&self) -> Description {
+        Description::of(self.fields).expect("a kind of the paper")
+    }
 }
 
 /// A description is one of five kinds, each with its sizes.
@@ -113,7 +137,19 @@ impl Description {
         matches!(self, Description::Torus { .. })
     }
 
-    fn divisions(self) -> Option<u32> {
+    /// The paper's number of the kind.
+    pub fn kind(self) -> u32 {
+        match self {
+            Description::Ribbon { .. } => 1,
+            Description::Tube { .. } => 2,
+            Description::Capsule { .. } => 3,
+            Description::Torus { .. } => 4,
+            Description::ClosedCylinder { .. } => 5,
+        }
+    }
+
+    /// n, which a ribbon lacks.
+    pub fn divisions(self) -> Option<u32> {
         match self {
             Description::Ribbon { .. } => None,
             Description::Tube { divisions, .. }

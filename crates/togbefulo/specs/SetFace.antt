@@ -1,0 +1,20 @@
+-- What the C functions on the shared set answer and leave: as Face.antt, 2^32 − 1 for a kind outside 1 to 5, and then nothing is touched.
+-- Definitions only.
+use mathlib.Core.List.{List, [], _∷_}
+use Prim.Native.Nat.{ℕ}
+use lib.Ieee.{Float}
+use Rattle.laws.specs.Overwrite.{overwrite}
+use Rattle.descriptions.specs.Answers.{Answer, refused, accepted}
+use Rattle.descriptions.specs.declared.kind.Described.{Described}
+use Rattle.descriptions.specs.declared.kind.Described.the-variants.{Known, Unknown}
+use Rattle.shared_set.specs.Set.{Buffers, After, added}
+use Rattle.togbefulo.specs.Face.{unknownKind}
+
+abbrev pub addedAs : Described → List Float → Buffers → After
+addedAs (Known d) c s = added d c s
+addedAs Unknown c s = record { answer = refused unknownKind; left = s }
+
+-- the word where it is accepted, and what was there where not
+abbrev pub wordAfter : Answer ℕ → List ℕ → List ℕ
+wordAfter (refused number) old = old
+wordAfter (accepted w) old = overwrite 0 (w ∷ []) old
