@@ -1,0 +1,125 @@
+// The bodies that are loaded, the same as in tests/src/bin/neighbours.rs.
+ghost use Prim.Native.Nat.{_<_};
+use crate::generator::below;
+use crate::generator::eighths;
+use crate::generator::next;
+use descriptions::Described;
+use descriptions::of_kind;
+
+// A body in small numbers: its kind by document 01's number, the width, radius and length in eighths, and of its curve the number of vertices
+// and the seed that it is drawn from. What a kind lacks is ignored; `steps` are the longitudes of a capsule and the layers of a closed cylinder.
+pub(crate) struct Case {
+    pub kind: u8,
+    pub divisions: u8,
+    pub steps: u8,
+    pub centred: bool,
+    pub size: u8,
+    pub length: u8,
+    pub vertices: u8,
+    pub seed: u32,
+}
+
+// A body between two others.
+pub(crate) struct Triple {
+    pub first: Case,
+    pub middle: Case,
+    pub last: Case,
+}
+
+impl Case {
+    pub(crate) fn describe(self) -> Described {
+        of_kind(
+            self.kind as u32,
+            self.divisions as u32,
+            self.steps as u32,
+            self.centred,
+            eighths(self.size),
+            eighths(self.length),
+        )
+    }
+
+    // The n of the body's entry: 0 for a ribbon.
+    pub(crate) fn entry_divisions(self) -> u32 {
+        if self.kind == 1 {
+            0
+        } else {
+            self.divisions as u32
+        }
+    }
+}
+
+// The small body of a kind at one of the three places: each place has its own sizes and its own curve.
+fn small_case(kind: u8, place: u8) -> Case
+    requires { ⌜ place < 3 ⌝ }
+{
+    Case {
+        kind,
+        divisions: 3 + place,
+        steps: 1 + place,
+        centred: place == 1,
+        size: 2 + place,
+        length: 5 + place,
+        vertices: if kind == 5 { 0 } else { 3 + place },
+        seed: place as u32,
+    }
+}
+
+// Of the 125 triples of kinds the one with this number.
+pub(crate) fn triple_of_kinds(number: u32) -> Triple {
+    Triple {
+        first: small_case((1 + number / 25 % 5) as u8, 0),
+        middle: small_case((1 + number / 5 % 5) as u8, 1),
+        last: small_case((1 + number % 5) as u8, 2),
+    }
+}
+
+// As many curve vertices as the kind may have, up to 17.
+fn drawn_vertices(kind: u8, state: u32) -> u8 {
+    match kind {
+        4 => 3 + below(state, 15),
+        5 => 0,
+        _ => 2 + below(state, 16),
+    }
+}
+
+// Longitudes or layers: none only on a curve that is long enough for a capsule without.
+fn drawn_steps(vertices: u8, state: u32) -> u8 {
+    if vertices < 4 {
+        return 1 + below(state, 8);
+    }
+    below(state, 9)
+}
+
+// A body of any kind. The largest, a capsule of 22 divisions, 8 longitudes and 16 segments, has 1,364 triangles: three of them fit.
+fn drawn_case(state: u32) -> Case {
+    let round = next(state);
+    let along = next(round);
+    let steps = next(along);
+    let centred = next(steps);
+    let size = next(centred);
+    let length = next(size);
+    let kind = 1 + below(state, 5);
+    let vertices = drawn_vertices(kind, along);
+    Case {
+        kind,
+        divisions: 3 + below(round, 20),
+        steps: drawn_steps(vertices, steps),
+        centred: below(centred, 2) == 1,
+        size: 1 + below(size, 16),
+        length: 1 + below(length, 16),
+        vertices,
+        seed: next(length),
+    }
+}
+
+// Three bodies, each drawn from the seed of the one before.
+pub(crate) fn drawn_triple(state: u32) -> Triple {
+    let first = drawn_case(state);
+    let middle = drawn_case(first.seed);
+    let last = drawn_case(middle.seed);
+    Triple {
+        first,
+        middle,
+        last,
+    }
+}
