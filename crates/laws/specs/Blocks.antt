@@ -1,13 +1,16 @@
 -- A list made of blocks, one after the other ("for j from 0", "each layer g and each i" of document 01, 'Triangle lists'), and the law of
 -- every loop that writes one. Assumes nothing.
 use mathlib.Core.Path.{_≡_, refl, sym, ap, _∙_}
-use mathlib.Core.List.{List, [], _++_, append-nil, append-assoc}
+use mathlib.Core.List.{List, [], _∷_, _++_, map, append-nil, append-assoc}
+use mathlib.Core.Logic.{⊎-elim}
 use Prim.Native.Nat.{ℕ, zero, suc, _+_, _-_, _*_, _≤_, _<_}
-use native.Mathlib.Nat.{suc-mul, zero-add}
+use native.Mathlib.Nat.{suc-mul, zero-add, not-suc-le-zero, le-of-suc-le-suc, eq-or-lt-of-le}
 use native.Mathlib.Numerals.{add-one}
 use native.Mathlib.Omega.{arith}
-use lib.ListN.{length, length-append}
+use lib.ListN.{length, getD, take, length-append, List·getD-append}
+use lib.Seq.{take-suc, getD-append-add}
 use Rattle.laws.specs.Overwrite.{overwrite, written-behind}
+use Rattle.laws.specs.Products.{row-within}
 
 module _ {ℓ} {A : Type ℓ} where
   -- f 0, then f 1, up to f (n - 1), one after the other; it grows at its end, as the loop that writes it does
@@ -37,6 +40,25 @@ module _ {ℓ} {A : Type ℓ} where
       ∙ ap (λ (l : List A). l ++ f (n + 1)) (blocks-first n f)
       ∙ append-assoc (f 0) (blocks n (λ k. f (k + 1))) (f (n + 1))
 
+  -- element k of block i, where each block has c elements
+  pub getD-blocks : (c n : ℕ) (f : ℕ → List A) (i k p : ℕ) (d : A) → ((j : ℕ) → length (f j) ≡ c) → i < n → k < c → p ≡ i * c + k
+      → getD (blocks n f) p d ≡ getD (f i) k d
+  getD-blocks c zero f i k p d sized h l is = absurd (not-suc-le-zero h)
+  getD-blocks c (suc n) f i k p d sized h l is =
+      let before = length-blocks c n f (λ j _. sized j) in
+      ⊎-elim
+      (λ last. ap (λ (m : ℕ). getD (blocks n f ++ f n) m d) (is ∙ (λ j. last j * c + k) ∙ ap (λ (m : ℕ). m + k) (sym before))
+      ∙ getD-append-add (blocks n f) (f n) k d
+      ∙ ap (λ (m : ℕ). getD (f m) k d) (sym last))
+      (λ lower. List·getD-append (blocks n f) (f n) d p (omega (arith, before, row-within i n c lower))
+      ∙ getD-blocks c n f i k p d sized lower l is)
+      (eq-or-lt-of-le (le-of-suc-le-suc h))
+
+  -- a list is its elements, one after the other
+  pub elements : (l : List A) (d : A) (n : ℕ) → n ≤ length l → blocks n (λ k. getD l k d ∷ []) ≡ take n l
+  elements l d zero h = refl
+  elements l d (suc n) h = ap (λ (t : List A). t ++ (getD l n d ∷ [])) (elements l d n (omega arith)) ∙ sym (take-suc l n d h)
+
   -- A turn of a loop that writes blocks of c elements: it finds t, with i blocks written, and leaves t′, having written v at p.
   pub one-more : (at i c : ℕ) (f : ℕ → List A) (t₀ : List A) {t t′ v : List A} {p : ℕ} → ((k : ℕ) → k < i → length (f k) ≡ c)
       → t ≡ overwrite at (blocks i f) t₀ → p ≡ at + i * c → t′ ≡ overwrite p v t → v ≡ f i → t′ ≡ overwrite at (blocks (i + 1) f) t₀
@@ -57,3 +79,14 @@ module _ {ℓ} {A : Type ℓ} where
       written-behind 0 (f 0) rest t₀ (first ∙ ap (λ (w : List A). overwrite 0 w t₀) is) sized
       (others ∙ ap (λ (k : ℕ). overwrite k rest t) (sym (zero-add c)))
       ∙ ap (λ (l : List A). overwrite 0 l t₀) (sym (blocks-first (n - 1) f) ∙ ap (λ (k : ℕ). blocks k f) e)
+
+module _ {ℓ ℓ′} {A : Type ℓ} {B : Type ℓ′} where
+  -- what a loop that makes element i of element i leaves
+  pub blocks-map : (f : A → B) (l : List A) (d : A) → blocks (length l) (λ i. f (getD l i d) ∷ []) ≡ map f l
+  blocks-map f [] d = refl
+  blocks-map f (x ∷ l) d =
+      let made : ℕ → List B = λ k. f (getD (x ∷ l) k d) ∷ [] in
+      let next : ℕ → List B = λ k. f (getD l k d) ∷ [] in
+      ap (λ (n : ℕ). blocks n made) (sym (add-one (length l)))
+      ∙ blocks-first (length l) made
+      ∙ ap (λ (r : List B). f x ∷ r) (blocks-cong (length l) (λ k. made (k + 1)) next (λ k h. ap made (add-one k)) ∙ blocks-map f l d)

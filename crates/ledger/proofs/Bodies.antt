@@ -6,6 +6,7 @@ use Prim.Native.Nat.{ℕ, _+_, _-_, _*_}
 use native.Mathlib.Omega.{arith}
 use lib.Ieee.{Float}
 use lib.ListN.{length}
+use Rattle.float32.specs.Scan.{allFinite}
 use Rattle.surface.specs.Triangles.{Triangle, triangle, flatten, shift}
 use Rattle.kinds.specs.Kinds.{trianglesOf}
 use Rattle.kinds.specs.Limits.{between}
@@ -15,11 +16,14 @@ use Rattle.descriptions.specs.Answers.{Test, AllPermitted}
 use Rattle.descriptions.specs.Descriptions.{topologyOf}
 use Rattle.descriptions.specs.Refusals.{ShapePermitted, checkedTests}
 use Rattle.descriptions.specs.declared.description.Description.{Description}
-use Rattle.descriptions.specs.declared.description.Description.the-variants.{Ribbon, Tube, Capsule, Torus, ClosedCylinder}
+use Rattle.descriptions.specs.declared.description.Description.the-variants.{Capsule}
 use Rattle.descriptions.proofs.Shapes.{shape-permitted, shape-bounds, checked-shape}
+use Rattle.bodies.specs.Bodies.{verticesOf}
 use Rattle.bodies.proofs.Lengths.{length-vertices}
-use Rattle.shared_set.specs.Bodies.{Body, kindNumber, vertexCountIn, bodyAlone}
+use Rattle.shared_set.specs.Bodies.{Body, bodyAlone}
+use Rattle.shared_set.specs.Table.{lastKind}
 use Rattle.shared_set.proofs.Counts.{vertices-counted}
+use Rattle.shared_set.proofs.KindNumbers.{kind-between}
 use Rattle.ledger.specs.Demand3.{Sound}
 
 -- tests that are passed one behind the other
@@ -34,8 +38,9 @@ capsule-counted d N h n L r e =
     (λ p. capsule-triangles n L (N - 1) (shape-bounds (Capsule n L r) N p .3)) h
 
 -- a body alone, of a description and a curve that nothing refuses before 2
-pub sound : (d : Description) (c : List Float) (first : ℕ) → AllPermitted (checkedTests d c) → Sound first (bodyAlone d c)
-sound d c first h =
+pub sound : (d : Description) (c : List Float) (first : ℕ) → AllPermitted (checkedTests d c) → allFinite (verticesOf d c) ≡ true
+    → Sound first (bodyAlone d c)
+sound d c first h finite =
     let N = verticesIn c in
     let shape = checked-shape d c h .1 in
     record {
@@ -43,28 +48,16 @@ sound d c first h =
       curve = c;
       permitted = h;
       alone = refl;
+      whole = omega (arith, length-vertices d c shape, vertices-counted d c shape);
+      finite = finite;
       vertices = vertices-counted d c shape;
       claims = permitted-claims (topologyOf d N) (shape-permitted d N shape) .1 first;
       capsule = capsule-counted d N shape;
     }
 
--- its floats are whole vertices
-pub whole : (first : ℕ) (b : Body) → Sound first b → length (b .vertices) ≡ 3 * vertexCountIn b
-whole first b s =
-    let d = s .description in
-    let c = s .curve in
-    let e = ap (λ (x : Body). length (x .vertices)) (s .alone) in
-    omega (arith, e, s .vertices, length-vertices d c (checked-shape d c (s .permitted) .1))
-
 -- its kind is one of the five
-pub kind-known : (first : ℕ) (b : Body) → Sound first b → between 1 5 (b .kind) ≡ true
-kind-known first b s = ap (λ (x : Body). between 1 5 (x .kind)) (s .alone) ∙ known (s .description) where
-  known : (d : Description) → between 1 5 (kindNumber d) ≡ true
-  known (Ribbon w) = refl
-  known (Tube n r) = refl
-  known (Capsule n L r) = refl
-  known (Torus n r) = refl
-  known (ClosedCylinder n S centred r l) = refl
+pub kind-known : (first : ℕ) (b : Body) → Sound first b → between 1 lastKind (b .kind) ≡ true
+kind-known first b s = ap (λ (x : Body). between 1 lastKind (x .kind)) (s .alone) ∙ kind-between (s .description)
 
 -- three numbers a triangle
 pub length-shifted : (first : ℕ) (ts : List Triangle) → length (flatten (shift first ts)) ≡ 3 * length ts

@@ -9,9 +9,10 @@ use lib.ListN.{length, drop, take, length-drop}
 use Rattle.laws.specs.Overwrite.{overwrite}
 use Rattle.laws.specs.Lent.{part-written}
 use Rattle.descriptions.specs.Answers.{refused}
+use Rattle.shared_set.specs.Additions.{entryWords}
 use Rattle.shared_set.specs.Table.{totalsIn}
 use Rattle.shared_set.specs.Set.{Buffers}
-use Rattle.shared_set.specs.File.{fileOf, entriesIn, verticesIn, trianglesIn, fileIn, wordIn, fileWordOf}
+use Rattle.shared_set.specs.File.{fileOf, entriesHeld, verticesHeld, trianglesHeld, fileIn, wordIn, fileWordOf}
 use Rattle.shared_set.specs.declared.totals.Totals.{Totals}
 use Rattle.ledger.specs.Ledger.{Ledger, bodyCount, vertexSum, triangleSum, totalsOf, entriesOf, setVertices, setTriangles}
 use Rattle.ledger.specs.Calls.{Called}
@@ -31,16 +32,16 @@ module _ (s₀ : Buffers) (L : Ledger) (held : List Float) (kept : Kept s₀ L h
   abbrev s : Buffers
   s = packed s₀ L held
 
-  entries-there : entriesIn (totalsOf L) s ≡ entriesOf L
+  entries-there : entriesHeld (totalsOf L) s ≡ entriesOf L
   entries-there =
-      ap (take (6 * bodyCount L)) (drop-head (bodyCount L) (entriesOf L) (s₀ .table))
-      ∙ part-written 0 (6 * bodyCount L) (entriesOf L) (drop 1 (s₀ .table)) (omega (arith, length-table L)) (omega (arith, kept .fits .entries, length-drop 1 (s₀ .table)))
+      ap (take (entryWords * bodyCount L)) (drop-head (bodyCount L) (entriesOf L) (s₀ .table))
+      ∙ part-written 0 (entryWords * bodyCount L) (entriesOf L) (drop 1 (s₀ .table)) (omega (arith, length-table L)) (omega (arith, kept .fits .entries, length-drop 1 (s₀ .table)))
 
-  vertices-there : verticesIn (totalsOf L) s ≡ setVertices L
+  vertices-there : verticesHeld (totalsOf L) s ≡ setVertices L
   vertices-there =
       part-written 0 (3 * vertexSum L) (setVertices L) held (length-set-vertices L (kept .each)) (omega (arith, kept .sized, kept .fits .vertices .1))
 
-  triangles-there : trianglesIn (totalsOf L) s ≡ setTriangles L
+  triangles-there : trianglesHeld (totalsOf L) s ≡ setTriangles L
   triangles-there =
       part-written 0 (3 * triangleSum L) (setTriangles L) (s₀ .triangles) (length-set-triangles L) (omega (arith, kept .fits .triangles .1))
 

@@ -18,11 +18,11 @@ use Rattle.shared_set.specs.Bodies.{Body, vertexCountIn, triangleCountIn}
 use Rattle.shared_set.specs.Additions.{Lengths, lengths, tableWords, roomTests, finiteTests, placeTests, additionTests}
 use Rattle.shared_set.specs.Set.{Buffers, buffers, lengthsOf, settled, settledAs, added}
 use Rattle.shared_set.proofs.Fitting.{fitting}
-use Rattle.ledger.specs.Ledger.{Ledger, then, bodyCount, vertexSum, totalsOf, Addition, aloneOf, replyTo, entered, entriesOf, setTable, setVertices, setTriangles, stainedBy}
+use Rattle.ledger.specs.Ledger.{Ledger, then, bodyCount, vertexSum, totalsOf, Addition, aloneOf, replyTo, entered, entryBehind, entriesOf, setTable, setVertices, setTriangles, stainedBy}
 use Rattle.ledger.specs.Calls.{addition}
 use Rattle.ledger.specs.Demand3.{EachSound}
 use Rattle.ledger.proofs.Bodies.{both-permitted, sound}
-use Rattle.ledger.proofs.Sizes.{entryBehind, length-table, length-set-vertices, length-set-triangles}
+use Rattle.ledger.proofs.Sizes.{length-table, length-set-vertices, length-set-triangles}
 use Rattle.ledger.proofs.ReadBack.{Held, totals-read, not-damaged}
 
 -- a write right behind the set's part of a buffer is part of the next set
@@ -116,7 +116,7 @@ module _ (s₀ : Buffers) where
       let fit = fitting room (totalsOf L) v t (has .0, kept .fits .few) in
       record {
         fits = record { few = omega (arith, fit .entry .0); entries = fit .entry .1; vertices = fit .vertices; triangles = fit .triangles };
-        each = (kept .each, sound d c (vertexSum L) (both .0));
+        each = (kept .each, sound d c (vertexSum L) (both .0) (has .1 .0));
         sized = kept .sized;
       }
   kept-next L a held (refused number) kept e =

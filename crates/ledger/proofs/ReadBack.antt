@@ -11,15 +11,15 @@ use lib.Seq.{getD-append-add}
 use Rattle.laws.specs.Overwrite.{overwrite, length-overwrite, getD-within}
 use Rattle.laws.specs.Every.{every}
 use Rattle.shared_set.specs.Bodies.{Body}
-use Rattle.shared_set.specs.Additions.{mostBodies, tableWords, Lengths, lengths}
+use Rattle.shared_set.specs.Additions.{mostBodies, entryWords, tableWords, Lengths, lengths}
 use Rattle.shared_set.specs.Table.{entryIn, bodiesIn, verticesBefore, trianglesBefore, entrySound, entryInSound, undamaged, totalsIn}
 use Rattle.shared_set.specs.Set.{entryOf}
 use Rattle.shared_set.specs.declared.totals.Totals.{Totals}
 use Rattle.shared_set.proofs.Tables.{reads-undamaged}
-use Rattle.ledger.specs.Ledger.{Ledger, empty, then, bodyCount, vertexSum, triangleSum, totalsOf, entriesOf, setTable}
+use Rattle.ledger.specs.Ledger.{Ledger, empty, then, bodyCount, vertexSum, triangleSum, totalsOf, entryBehind, entriesOf, setTable}
 use Rattle.ledger.specs.Demand3.{EachSound}
 use Rattle.ledger.proofs.Bodies.{kind-known}
-use Rattle.ledger.proofs.Sizes.{entryBehind, length-table}
+use Rattle.ledger.proofs.Sizes.{length-table}
 
 -- what the ledger's set needs of buffers of so many elements
 pub record Held (room : Lengths) (L : Ledger) : Type 0 where
@@ -47,7 +47,7 @@ begins : (L : Ledger) (n : ℕ) (more T : List ℕ) → tableWords (bodyCount L)
 begins empty n more T room = tt
 begins (then L b) n more T room =
     let e = entryBehind L b in
-    let word : (k p : ℕ) → p ≡ tableWords (bodyCount L) + k → k < 6
+    let word : (k p : ℕ) → p ≡ tableWords (bodyCount L) + k → k < entryWords
     → getD (overwrite 0 (n ∷ (entriesOf L ++ (e ++ more))) T) p 0 ≡ getD (e ++ more) k 0 =
     λ k p is h. word-behind L n (e ++ more) T k p is (omega (arith, length-append e more)) (omega arith) in
     let at = tableWords (bodyCount L) in

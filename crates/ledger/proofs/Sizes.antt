@@ -1,21 +1,15 @@
 -- How long the ledger's set is. Assumes nothing.
 use mathlib.Core.Path.{_≡_, refl}
-use mathlib.Core.List.{List, [], _∷_}
-use Prim.Native.Nat.{ℕ, _*_}
+use Prim.Native.Nat.{_*_}
 use native.Mathlib.Omega.{arith}
 use lib.ListN.{length, length-append}
 use Rattle.surface.specs.Triangles.{flatten, shift}
-use Rattle.shared_set.specs.Bodies.{Body, vertexCountIn, triangleCountIn}
-use Rattle.shared_set.specs.Additions.{tableWords}
-use Rattle.ledger.specs.Ledger.{Ledger, empty, then, bodyCount, vertexSum, triangleSum, entriesOf, setTable, setVertices, setTriangles}
+use Rattle.shared_set.specs.Additions.{entryWords, tableWords}
+use Rattle.ledger.specs.Ledger.{Ledger, empty, then, bodyCount, vertexSum, triangleSum, entryBehind, entriesOf, setTable, setVertices, setTriangles}
 use Rattle.ledger.specs.Demand3.{EachSound}
-use Rattle.ledger.proofs.Bodies.{whole, length-shifted}
+use Rattle.ledger.proofs.Bodies.{length-shifted}
 
--- the words of the entry of a body behind L
-abbrev pub entryBehind : Ledger → Body → List ℕ
-entryBehind L b = b .kind ∷ b .divisions ∷ vertexSum L ∷ vertexCountIn b ∷ triangleSum L ∷ triangleCountIn b ∷ []
-
-length-entries : (L : Ledger) → length (entriesOf L) ≡ 6 * bodyCount L
+length-entries : (L : Ledger) → length (entriesOf L) ≡ entryWords * bodyCount L
 length-entries empty = refl
 length-entries (then L b) = omega (arith, length-entries L, length-append (entriesOf L) (entryBehind L b))
 
@@ -25,7 +19,7 @@ length-table L = omega (arith, length-entries L)
 pub length-set-vertices : (L : Ledger) → EachSound L → length (setVertices L) ≡ 3 * vertexSum L
 length-set-vertices empty h = refl
 length-set-vertices (then L b) h =
-    omega (arith, length-set-vertices L (h .0), length-append (setVertices L) (b .vertices), whole (vertexSum L) b (h .1))
+    omega (arith, length-set-vertices L (h .0), length-append (setVertices L) (b .vertices), h .1 .whole)
 
 pub length-set-triangles : (L : Ledger) → length (setTriangles L) ≡ 3 * triangleSum L
 length-set-triangles empty = refl

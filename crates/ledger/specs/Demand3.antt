@@ -1,9 +1,11 @@
 -- Demand 3, as one claim about a whole list of additions. The theorem is `demand-3` in proofs/Demand3.antt. Definitions only.
 use mathlib.Core.Path.{_≡_}
+use mathlib.Core.Bool.{true}
 use mathlib.Core.List.{List, _++_}
 use Prim.Native.Nat.{ℕ, _-_, _+_, _*_}
 use lib.Ieee.{Float}
 use lib.ListN.{length, drop}
+use Rattle.float32.specs.Scan.{allFinite}
 use Rattle.surface.specs.Triangles.{shift}
 use Rattle.kinds.specs.Kinds.{vertexCount}
 use Rattle.kinds.specs.Claims.{Claims}
@@ -26,6 +28,9 @@ pub record Sound (first : ℕ) (b : Body) : Type 0 where
   -- 10, 20, 21, 22, 11, 12 and 13 do not refuse it
   pub permitted : AllPermitted (checkedTests description curve)
   pub alone : b ≡ bodyAlone description curve
+  -- "packed without gap or overlap": its floats are whole vertices, as many as the counts promise, and (23) finite
+  pub whole : length (b .vertices) ≡ 3 * vertexCountIn b
+  pub finite : allFinite (b .vertices) ≡ true
   pub vertices : vertexCountIn b ≡ vertexCount (topologyOf description (verticesIn curve))
   -- "no index lies outside it and no directed edge is used twice. Every edge of a capsule, closed cylinder or torus has its reverse. A tube of n
   -- divisions has exactly 2n unmatched edges, a ribbon of m segments exactly 2m + 2.": the fields of `Claims`
@@ -48,7 +53,8 @@ stainedVertices s list = stained (lengthsOf s) empty list (s .vertices)
 abbrev pub beginsWith : {A : Type 0} → List A → List A → List A
 beginsWith set held = set ++ drop (length set) held
 
--- What holds after a clear and the additions of `list`, on buffers that held s.
+-- What holds after a clear and the additions of `list`, on buffers that held s before the clear; word 0, which the clear writes, is the
+-- set's own.
 pub record Demand3 (s : Buffers) (list : List Addition) : Type 0 where
   -- "The answers of the additions are the ledger's."
   pub answers : clearAndAdd list s .answers ≡ repliesTo (lengthsOf s) empty list

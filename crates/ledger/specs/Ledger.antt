@@ -65,10 +65,12 @@ final room L (a ∷ rest) = final room (entered L a (replyTo room L a)) rest
 
 -- "The ledger's set is word 0, the number of its bodies; an entry for each, its first vertex and first triangle being the sums of the counts
 -- before it"
+abbrev pub entryBehind : Ledger → Body → List ℕ
+entryBehind L b = b .kind ∷ b .divisions ∷ vertexSum L ∷ vertexCountIn b ∷ triangleSum L ∷ triangleCountIn b ∷ []
+
 abbrev pub entriesOf : Ledger → List ℕ
 entriesOf empty = []
-entriesOf (then L b) =
-    entriesOf L ++ (b .kind ∷ b .divisions ∷ vertexSum L ∷ vertexCountIn b ∷ triangleSum L ∷ triangleCountIn b ∷ [])
+entriesOf (then L b) = entriesOf L ++ entryBehind L b
 
 abbrev pub setTable : Ledger → List ℕ
 setTable L = bodyCount L ∷ entriesOf L

@@ -1,35 +1,13 @@
 -- The bytes of words below 2^32 are read back as these words. Assumes nothing.
-use mathlib.Core.Path.{_≡_, refl, sym, ap, _∙_}
-use mathlib.Core.List.{List, [], _∷_, _++_}
-use mathlib.Core.Logic.{⊎-elim}
-use Prim.Native.Nat.{ℕ, zero, suc, _+_, _*_, _/_, _%_, _^_, _≤_, _<_}
-use native.Mathlib.Nat.{not-suc-le-zero, le-of-suc-le-suc, eq-or-lt-of-le, div-div-eq-div-mul}
+use mathlib.Core.Path.{_≡_, refl, ap, _∙_}
+use mathlib.Core.List.{List, [], _∷_}
+use Prim.Native.Nat.{ℕ, _+_, _*_, _/_, _%_, _^_, _<_}
+use native.Mathlib.Nat.{div-div-eq-div-mul}
 use native.Mathlib.Omega.{arith}
-use lib.ListN.{length, getD, take, List·getD-append}
-use lib.Seq.{take-suc, take-length, getD-append-add}
-use Rattle.laws.specs.Blocks.{blocks, length-blocks, blocks-cong}
-use Rattle.laws.specs.Products.{row-within}
+use lib.ListN.{length, getD}
+use lib.Seq.{take-length}
+use Rattle.laws.specs.Blocks.{blocks, length-blocks, blocks-cong, getD-blocks, elements}
 use Rattle.little_endian.specs.Words.{wordOf, wordAt, wordsIn, bytesOf, bytesIn}
-
-module _ {ℓ} {A : Type ℓ} where
-  -- element k of block i, where each block has c elements
-  getD-blocks : (c n : ℕ) (f : ℕ → List A) (i k p : ℕ) (d : A) → ((j : ℕ) → length (f j) ≡ c) → i < n → k < c → p ≡ i * c + k
-      → getD (blocks n f) p d ≡ getD (f i) k d
-  getD-blocks c zero f i k p d sized h l is = absurd (not-suc-le-zero h)
-  getD-blocks c (suc n) f i k p d sized h l is =
-      let before = length-blocks c n f (λ j _. sized j) in
-      ⊎-elim
-      (λ last. ap (λ (m : ℕ). getD (blocks n f ++ f n) m d) (is ∙ (λ j. last j * c + k) ∙ ap (λ (m : ℕ). m + k) (sym before))
-      ∙ getD-append-add (blocks n f) (f n) k d
-      ∙ ap (λ (m : ℕ). getD (f m) k d) (sym last))
-      (λ lower. List·getD-append (blocks n f) (f n) d p (omega (arith, before, row-within i n c lower))
-      ∙ getD-blocks c n f i k p d sized lower l is)
-      (eq-or-lt-of-le (le-of-suc-le-suc h))
-
-  -- a list is its elements, one after the other
-  elements : (l : List A) (d : A) (n : ℕ) → n ≤ length l → blocks n (λ k. getD l k d ∷ []) ≡ take n l
-  elements l d zero h = refl
-  elements l d (suc n) h = ap (λ (t : List A). t ++ (getD l n d ∷ [])) (elements l d n (omega arith)) ∙ sym (take-suc l n d h)
 
 word-back : (w : ℕ) → w < 2 ^ 32 → wordOf (w % 256) (w / 256 % 256) (w / 65536 % 256) (w / 16777216 % 256) ≡ w
 word-back w h =

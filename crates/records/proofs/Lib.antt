@@ -1,3 +1,4 @@
 pub mod Additions
-pub mod Floats
 pub mod Progress
+pub mod Built
+pub mod File

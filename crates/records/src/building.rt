@@ -53,8 +53,9 @@ fn add_all(
     }
 }
 
-// Clears the set and adds the bodies of a whole list of records, which ends at a short one or one of too many vertices; the number that
-// each addition got, 0 where it was accepted, goes to `answers`. An empty table is refused, and nothing touched.
+// Clears the set and adds the bodies of a whole list of records, which ends at a short one or one of too many vertices. The number that
+// each addition got, 0 where it was accepted, goes to `answers`, as far as it reaches: one for each record of a known kind, in order. An
+// empty table is refused, and nothing touched.
 pub fn build(
     records: &[u32],
     answers: &mut [u32],

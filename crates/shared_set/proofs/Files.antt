@@ -16,7 +16,7 @@ use Rattle.descriptions.proofs.FirstOf.{accepted-by, passed-by, refused-by}
 use Rattle.shared_set.specs.Additions.{tableWords, entryWords}
 use Rattle.shared_set.specs.Table.{totalsIn, undamaged, readingOf}
 use Rattle.shared_set.specs.Set.{Buffers}
-use Rattle.shared_set.specs.File.{fileHead, fileBehind, entriesIn, verticesIn, trianglesIn, fileIn, endTests, wordIn, fileWordOf}
+use Rattle.shared_set.specs.File.{fileHead, fileBehind, entriesHeld, verticesHeld, trianglesHeld, fileIn, endTests, wordIn, fileWordOf}
 use Rattle.shared_set.specs.declared.totals.Totals.{Totals}
 
 -- a word of a list, and none past its end
@@ -45,11 +45,11 @@ word-behind xs ys place {n} e h = word-add xs ys (place - n) ∙ ap (wordIn (xs 
 
 -- the vertices' words
 abbrev floatsIn : Totals → Buffers → List ℕ
-floatsIn t s = map (toBits binary32) (verticesIn t s)
+floatsIn t s = map (toBits binary32) (verticesHeld t s)
 
 -- the file behind its head
 abbrev behindIn : Totals → Buffers → List ℕ
-behindIn t s = fileBehind (entriesIn t s) (verticesIn t s) (trianglesIn t s)
+behindIn t s = fileBehind (entriesHeld t s) (verticesHeld t s) (trianglesHeld t s)
 
 -- where a place there is among the vertices' words, and among the triangles'
 abbrev amongFloats : Totals → ℕ → ℕ
@@ -65,50 +65,50 @@ Held t s =
 
 -- the word behind the head: an entry's, a vertex's, a triangle's, or none
 module _ (t : Totals) (s : Buffers) (held : Held t s) (place : ℕ) where
-  entries-length : length (entriesIn t s) ≡ entryWords * t .bodies
+  entries-length : length (entriesHeld t s) ≡ entryWords * t .bodies
   entries-length = length-take-le (entryWords * t .bodies) (drop 1 (s .table)) (omega (arith, length-drop 1 (s .table)))
 
-  vertices-length : length (verticesIn t s) ≡ 3 * t .vertices
+  vertices-length : length (verticesHeld t s) ≡ 3 * t .vertices
   vertices-length = length-take-le (3 * t .vertices) (s .vertices) (held .1 .0)
 
   floats-length : length (floatsIn t s) ≡ 3 * t .vertices
-  floats-length = length-map (verticesIn t s) (toBits binary32) ∙ vertices-length
+  floats-length = length-map (verticesHeld t s) (toBits binary32) ∙ vertices-length
 
-  triangles-length : length (trianglesIn t s) ≡ 3 * t .triangles
+  triangles-length : length (trianglesHeld t s) ≡ 3 * t .triangles
   triangles-length = length-take-le (3 * t .triangles) (s .triangles) (held .1 .1)
 
   pub entry-word : place < entryWords * t .bodies → accepted (getD (s .table) (1 + place) 0) ≡ wordIn (behindIn t s) place
   entry-word h =
       ap accepted (sym (getD-take (entryWords * t .bodies) (drop 1 (s .table)) place 0 h ∙ getD-drop 1 (s .table) place 0))
-      ∙ word-front (entriesIn t s) (floatsIn t s ++ trianglesIn t s) place (omega (arith, entries-length))
+      ∙ word-front (entriesHeld t s) (floatsIn t s ++ trianglesHeld t s) place (omega (arith, entries-length))
 
   module _ (past-entries : entryWords * t .bodies ≤ place) where
-    behind-entries : wordIn (floatsIn t s ++ trianglesIn t s) (amongFloats t place) ≡ wordIn (behindIn t s) place
-    behind-entries = word-behind (entriesIn t s) (floatsIn t s ++ trianglesIn t s) place entries-length past-entries
+    behind-entries : wordIn (floatsIn t s ++ trianglesHeld t s) (amongFloats t place) ≡ wordIn (behindIn t s) place
+    behind-entries = word-behind (entriesHeld t s) (floatsIn t s ++ trianglesHeld t s) place entries-length past-entries
 
     pub vertex-word : amongFloats t place < 3 * t .vertices
         → accepted (toBits binary32 (getD (s .vertices) (amongFloats t place) nan)) ≡ wordIn (behindIn t s) place
     vertex-word h =
         let k = amongFloats t place in
         ap (λ (x : Float). accepted (toBits binary32 x)) (sym (getD-take (3 * t .vertices) (s .vertices) k nan h))
-        ∙ ap accepted (getD-map (toBits binary32) (verticesIn t s) k nan 0 (omega (arith, vertices-length)))
-        ∙ word-front (floatsIn t s) (trianglesIn t s) k (omega (arith, floats-length))
+        ∙ ap accepted (getD-map (toBits binary32) (verticesHeld t s) k nan 0 (omega (arith, vertices-length)))
+        ∙ word-front (floatsIn t s) (trianglesHeld t s) k (omega (arith, floats-length))
         ∙ behind-entries
 
     module _ (past-vertices : 3 * t .vertices ≤ amongFloats t place) where
-      behind-floats : wordIn (trianglesIn t s) (amongTriangles t place) ≡ wordIn (behindIn t s) place
-      behind-floats = word-behind (floatsIn t s) (trianglesIn t s) (amongFloats t place) floats-length past-vertices ∙ behind-entries
+      behind-floats : wordIn (trianglesHeld t s) (amongTriangles t place) ≡ wordIn (behindIn t s) place
+      behind-floats = word-behind (floatsIn t s) (trianglesHeld t s) (amongFloats t place) floats-length past-vertices ∙ behind-entries
 
       pub triangle-word : amongTriangles t place < 3 * t .triangles
           → accepted (getD (s .triangles) (amongTriangles t place) 0) ≡ wordIn (behindIn t s) place
       triangle-word h =
           let k = amongTriangles t place in
           ap accepted (sym (getD-take (3 * t .triangles) (s .triangles) k 0 h))
-          ∙ word-here (trianglesIn t s) k (omega (arith, triangles-length))
+          ∙ word-here (trianglesHeld t s) k (omega (arith, triangles-length))
           ∙ behind-floats
 
       pub no-word : 3 * t .triangles ≤ amongTriangles t place → refused 5 ≡ wordIn (behindIn t s) place
-      no-word h = word-past (trianglesIn t s) (amongTriangles t place) (omega (arith, triangles-length)) ∙ behind-floats
+      no-word h = word-past (trianglesHeld t s) (amongTriangles t place) (omega (arith, triangles-length)) ∙ behind-floats
 
 -- a table that is read as t leaves the answer to the file, and a damaged one has no file
 module _ (s : Buffers) (place : ℕ) where

@@ -3,3 +3,4 @@ pub mod Counts
 pub mod Fitting
 pub mod Additions
 pub mod Files
+pub mod KindNumbers

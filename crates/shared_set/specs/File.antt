@@ -26,18 +26,18 @@ abbrev pub fileOf : Totals → List ℕ → List Float → List ℕ → List ℕ
 fileOf t entries vertices triangles = fileHead t ++ fileBehind entries vertices triangles
 
 -- what the buffers hold of a set of these totals
-abbrev pub entriesIn : Totals → Buffers → List ℕ
-entriesIn t s = take (entryWords * t .bodies) (drop 1 (s .table))
+abbrev pub entriesHeld : Totals → Buffers → List ℕ
+entriesHeld t s = take (entryWords * t .bodies) (drop 1 (s .table))
 
-abbrev pub verticesIn : Totals → Buffers → List Float
-verticesIn t s = take (3 * t .vertices) (s .vertices)
+abbrev pub verticesHeld : Totals → Buffers → List Float
+verticesHeld t s = take (3 * t .vertices) (s .vertices)
 
-abbrev pub trianglesIn : Totals → Buffers → List ℕ
-trianglesIn t s = take (3 * t .triangles) (s .triangles)
+abbrev pub trianglesHeld : Totals → Buffers → List ℕ
+trianglesHeld t s = take (3 * t .triangles) (s .triangles)
 
 -- the file of the set in the buffers
 abbrev pub fileIn : Totals → Buffers → List ℕ
-fileIn t s = fileOf t (entriesIn t s) (verticesIn t s) (trianglesIn t s)
+fileIn t s = fileOf t (entriesHeld t s) (verticesHeld t s) (trianglesHeld t s)
 
 -- 5: not "file word at or past the end"
 abbrev pub endTests : List ℕ → ℕ → List Test

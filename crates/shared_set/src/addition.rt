@@ -1,5 +1,6 @@
 ghost use mathlib.Core.Path.{_≡_};
 ghost use Prim.Native.Nat.{_≤_, _^_};
+ghost use Rattle.shared_set.specs.Additions.{mostBodies};
 ghost use Rattle.shared_set.specs.Answers.{outcomeAnswer};
 ghost use Rattle.shared_set.specs.Set.{buffers, after, addedBehind, added};
 use crate::answers::Outcome;
@@ -22,7 +23,7 @@ fn add_behind(
     vertices: &mut [f32],
     triangles: &mut [u32],
 ) -> Outcome
-    requires { ⌜ totals .bodies ≤ 64 ⌝ }
+    requires { ⌜ totals .bodies ≤ mostBodies ⌝ }
     requires { ⌜ totals .vertices ≤ 2 ^ 28 ⌝ }
     requires { ⌜ totals .triangles ≤ 2 ^ 28 ⌝ }
     ensures { λ r. ⌜ after (outcomeAnswer r) (now (table .exit)) (now (vertices .exit)) (now (triangles .exit))

@@ -1,15 +1,15 @@
 ghost use mathlib.Core.Path.{_≡_};
 ghost use Prim.Native.Nat.{_+_, _*_, _≤_, _<_};
 ghost use lib.ListN.{length};
-ghost use Rattle.shared_set.specs.Additions.{tableWords};
+ghost use Rattle.shared_set.specs.Additions.{mostBodies, tableWords};
 ghost use Rattle.shared_set.specs.Table.{entryIn};
 ghost use Rattle.shared_set.specs.Set.{withEntry};
 
 // How many words an entry has.
-pub(crate) const WORDS: usize = 6;
+pub(crate) const ENTRY_WORDS: usize = 6;
 
 // The most bodies that a set may have.
-pub(crate) const MOST: usize = 64;
+pub(crate) const MOST_BODIES: usize = 64;
 
 // A body's entry in the table: its kind and n, its first vertex and how many it has, its first triangle and how many it has.
 pub struct Entry {
@@ -23,11 +23,11 @@ pub struct Entry {
 
 // Entry j of a table that has it.
 pub(crate) fn read_entry(table: &[u32], j: usize) -> Entry
-    requires { ⌜ j < 64 ⌝ }
+    requires { ⌜ j < mostBodies ⌝ }
     requires { ⌜ tableWords (j + 1) ≤ length (now table) ⌝ }
     ensures { λ r. ⌜ r ≡ entryIn (now (table .entry)) j ⌝ }
 {
-    let at = 1 + WORDS * j;
+    let at = 1 + ENTRY_WORDS * j;
     Entry {
         kind: table[at],
         divisions: table[at + 1],
@@ -40,11 +40,11 @@ pub(crate) fn read_entry(table: &[u32], j: usize) -> Entry
 
 // Writes an entry behind those of so many bodies, and word 0.
 pub(crate) fn write_entry(table: &mut [u32], bodies: usize, entry: Entry)
-    requires { ⌜ bodies < 64 ⌝ }
+    requires { ⌜ bodies < mostBodies ⌝ }
     requires { ⌜ tableWords (bodies + 1) ≤ length (now table) ⌝ }
     ensures { λ _. ⌜ now (table .exit) ≡ withEntry bodies entry (now (table .entry)) ⌝ }
 {
-    let at = 1 + WORDS * bodies;
+    let at = 1 + ENTRY_WORDS * bodies;
     table[at] = entry.kind;
     table[at + 1] = entry.divisions;
     table[at + 2] = entry.vertex;

@@ -1,12 +1,13 @@
 ghost use mathlib.Core.Path.{_≡_};
 ghost use Prim.Native.Nat.{_+_, _*_, _≤_, _<_, _^_};
 ghost use lib.ListN.{length, getD};
+ghost use Rattle.shared_set.specs.Additions.{mostBodies, tableWords};
 ghost use Rattle.shared_set.specs.Answers.{wordAnswer};
 ghost use Rattle.shared_set.specs.Set.{buffers};
-ghost use Rattle.shared_set.specs.File.{fileHead, fileBehind, entriesIn, verticesIn, trianglesIn, wordIn, fileWordOf};
+ghost use Rattle.shared_set.specs.File.{fileHead, fileBehind, entriesHeld, verticesHeld, trianglesHeld, wordIn, fileWordOf};
 use crate::answers::FileWord;
 use crate::answers::Why;
-use crate::entries::WORDS;
+use crate::entries::ENTRY_WORDS;
 use crate::table::read;
 use crate::totals::Reading;
 use crate::totals::Totals;
@@ -15,12 +16,12 @@ use crate::totals::Totals;
 const EDITION: u32 = 1;
 
 // How many words the file has in front of the entries.
-const HEAD: usize = 4;
+const FILE_HEAD: usize = 4;
 
 // Word `place` of the file's head.
 fn head_word(totals: Totals, place: usize) -> u32
     requires { ⌜ place < 4 ⌝ }
-    requires { ⌜ totals .bodies ≤ 64 ⌝ }
+    requires { ⌜ totals .bodies ≤ mostBodies ⌝ }
     requires { ⌜ totals .vertices ≤ 2 ^ 28 ⌝ }
     requires { ⌜ totals .triangles ≤ 2 ^ 28 ⌝ }
     ensures { λ r. ⌜ r ≡ getD (fileHead totals) place 0 ⌝ }
@@ -41,14 +42,14 @@ fn word_behind(
     triangles: &[u32],
     place: usize,
 ) -> FileWord
-    requires { ⌜ totals .bodies ≤ 64 ⌝ }
-    requires { ⌜ 1 + 6 * totals .bodies ≤ length (now table) ⌝ }
+    requires { ⌜ totals .bodies ≤ mostBodies ⌝ }
+    requires { ⌜ tableWords (totals .bodies) ≤ length (now table) ⌝ }
     requires { ⌜ 3 * totals .vertices ≤ length (now vertices) ⌝ }
     requires { ⌜ 3 * totals .triangles ≤ length (now triangles) ⌝ }
     ensures { λ r. let s = buffers (now (table .entry)) (now (vertices .entry)) (now (triangles .entry)) in
-        ⌜ wordAnswer r ≡ wordIn (fileBehind (entriesIn totals s) (verticesIn totals s) (trianglesIn totals s)) place ⌝ }
+        ⌜ wordAnswer r ≡ wordIn (fileBehind (entriesHeld totals s) (verticesHeld totals s) (trianglesHeld totals s)) place ⌝ }
 {
-    let entries = WORDS * totals.bodies;
+    let entries = ENTRY_WORDS * totals.bodies;
     if place < entries {
         return FileWord::Word(table[1 + place]);
     }
@@ -71,10 +72,10 @@ pub fn file_word(table: &[u32], vertices: &[f32], triangles: &[u32], place: usiz
     match read(table, vertices.len(), triangles.len()) {
         Reading::Damaged => FileWord::Refused(Why::DamagedTable),
         Reading::Sound(totals) => {
-            if place < HEAD {
+            if place < FILE_HEAD {
                 return FileWord::Word(head_word(totals, place));
             }
-            word_behind(totals, table, vertices, triangles, place - HEAD)
+            word_behind(totals, table, vertices, triangles, place - FILE_HEAD)
         }
     }
 }

@@ -2,11 +2,11 @@ ghost use mathlib.Core.Path.{_≡_};
 ghost use Prim.Native.Nat.{_+_, _≤_, _^_};
 ghost use Rattle.descriptions.specs.Answers.{firstOf};
 ghost use Rattle.kinds.specs.Kinds.{vertexCount, triangleCount};
-ghost use Rattle.shared_set.specs.Additions.{lengths, totalPermitted, entryPermitted, roomTests};
+ghost use Rattle.shared_set.specs.Additions.{mostBodies, lengths, totalPermitted, entryPermitted, roomTests};
 ghost use Rattle.shared_set.specs.Answers.{roomAnswer};
 use crate::answers::Why;
-use crate::entries::MOST;
-use crate::entries::WORDS;
+use crate::entries::ENTRY_WORDS;
+use crate::entries::MOST_BODIES;
 use crate::totals::Totals;
 use kinds::Topology;
 
@@ -30,10 +30,10 @@ fn is_sum_permitted(total: usize, more: u64, room: usize) -> bool
 
 // Whether a table of so many words has room for one entry more.
 fn is_entry_permitted(bodies: usize, room: usize) -> bool
-    requires { ⌜ bodies ≤ 64 ⌝ }
+    requires { ⌜ bodies ≤ mostBodies ⌝ }
     ensures { λ r. ⌜ r ≡ entryPermitted bodies room ⌝ }
 {
-    bodies != MOST && 1 + WORDS * (bodies + 1) <= room
+    bodies != MOST_BODIES && 1 + ENTRY_WORDS * (bodies + 1) <= room
 }
 
 // What 2, 3 and 4 say.
@@ -50,7 +50,7 @@ pub(crate) fn check_room(
     vertices: usize,
     triangles: usize,
 ) -> Room
-    requires { ⌜ totals .bodies ≤ 64 ⌝ }
+    requires { ⌜ totals .bodies ≤ mostBodies ⌝ }
     requires { ⌜ totals .vertices ≤ 2 ^ 28 ⌝ }
     requires { ⌜ totals .triangles ≤ 2 ^ 28 ⌝ }
     ensures { λ r. ⌜ roomAnswer r

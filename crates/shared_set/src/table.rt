@@ -1,9 +1,9 @@
 ghost use mathlib.Core.Path.{_≡_};
 ghost use Rattle.shared_set.specs.Answers.{readingAnswer};
 ghost use Rattle.shared_set.specs.Table.{entrySound, headSound, readingOf};
+use crate::entries::ENTRY_WORDS;
 use crate::entries::Entry;
-use crate::entries::MOST;
-use crate::entries::WORDS;
+use crate::entries::MOST_BODIES;
 use crate::entries::read_entry;
 use crate::room::is_total_permitted;
 use crate::totals::Reading;
@@ -30,7 +30,7 @@ fn is_head_sound(table: &[u32]) -> bool
         return false;
     }
     let bodies = table[0] as usize;
-    bodies <= MOST && 1 + WORDS * bodies <= table.len()
+    bodies <= MOST_BODIES && 1 + ENTRY_WORDS * bodies <= table.len()
 }
 
 // What the table says, or that it is damaged; the other two buffers have so many elements. 64 counts of 32 bits do not wrap a usize.

@@ -18,19 +18,12 @@ use Rattle.shared_set.specs.declared.answers.Outcome.{Outcome}
 use Rattle.shared_set.specs.declared.answers.Outcome.the-variants as outcome
 use Rattle.shared_set.proofs.answers.Outcome.{the-type}
 use Rattle.ledger.specs.Ledger.{Addition, empty, repliesTo}
-use Rattle.ledger.specs.Calls.{Called, additions, clearAndAdd}
-use Rattle.ledger.proofs.Demand3.{demand-3}
+use Rattle.ledger.specs.Calls.{Called, additions}
 use Rattle.records.specs.Records.{additionsIn}
 use Rattle.records.specs.Built.{numbersOf, ledgerSet, built, builtBy}
+use Rattle.records.proofs.Built.{all-added}
 use Rattle.records.proofs.building.build.Statement.{statement}
 use Rattle.records.proofs.building.build.Tie as tie
-
--- demand 3, as one equation
-all-added : (s : Buffers) (list : List Addition) → clearAnswer (s .table) ≡ accepted tt
-    → clearAndAdd list s ≡ record { answers = repliesTo (lengthsOf s) empty list; left = ledgerSet s list }
-all-added s list ok =
-    let d = demand-3 s list ok in
-    (λ j. record { answers = d .answers j; left = buffers (d .table j) (d .vertices j) (d .triangles j) })
 
 -- a table that is not cleared is empty
 untouched : (list : List Addition) (answers : List ℕ) (s : Buffers) → (clearAnswer (s .table) ≡ accepted tt → ⊥)

@@ -8,8 +8,7 @@ use denote.Ref.{now}
 use lib.Ieee.{Float, binary32, ofBits}
 use lib.ListN.{length, getD, length-set}
 use Rattle.laws.specs.Overwrite.{overwrite, overwrite-none, one-store}
-use Rattle.laws.specs.Blocks.{blocks, one-more, all-written}
-use Rattle.records.proofs.Floats.{blocks-map}
+use Rattle.laws.specs.Blocks.{blocks, one-more, all-written, blocks-map}
 use Rattle.records.proofs.first.fill_floats.Statement.{statement}
 use Rattle.records.proofs.first.fill_floats.Tie as tie
 
