@@ -4,7 +4,6 @@ ghost use Prim.Native.Nat.{_+_, _≤_};
 use crate::cases::Case;
 use crate::curves::COORDINATES;
 use crate::curves::fill_curve;
-use descriptions::Described;
 use descriptions::Description;
 use descriptions::Verdict;
 
@@ -26,6 +25,22 @@ impl Counts {
         Counts {
             vertices: 0,
             triangles: 0,
+        }
+    }
+
+    // None where there is no room for so many.
+    fn of(vertices: u64, triangles: u64) -> Counts
+        ensures { λ r. ⌜ (r .vertices ≤ 4096) × (r .triangles ≤ 4096) ⌝ }
+    {
+        if vertices > MOST {
+            return Counts::none();
+        }
+        if triangles > MOST {
+            return Counts::none();
+        }
+        Counts {
+            vertices: vertices as usize,
+            triangles: triangles as usize,
         }
     }
 
@@ -53,21 +68,13 @@ fn write_body(
     match description.check(curve) {
         Verdict::Refused(_) => Counts::none(),
         Verdict::Accepted(body) => {
-            let v = body.vertex_count();
-            let t = body.triangle_count();
-            if v > MOST || t > MOST {
-                return Counts::none();
-            }
             if !bodies::write_vertices(description, curve, vertices) {
                 return Counts::none();
             }
             if !body.write_triangles(0, triangles) {
                 return Counts::none();
             }
-            Counts {
-                vertices: v as usize,
-                triangles: t as usize,
-            }
+            Counts::of(body.vertex_count(), body.triangle_count())
         }
     }
 }
@@ -78,13 +85,5 @@ pub(crate) fn write_alone(case: Case, vertices: &mut [f32], triangles: &mut [u32
 {
     let mut space = [0f32; COORDINATES];
     let end = fill_curve(case, &mut space);
-    match case.describe() {
-        Described::Unknown => Counts::none(),
-        Described::Known(description) => write_body(
-            description,
-            &space[..end],
-            vertices,
-            triangles,
-        ),
-    }
+    write_body(case.describe(), &space[..end], vertices, triangles)
 }

@@ -3,8 +3,7 @@ ghost use Prim.Native.Nat.{_<_};
 use crate::generator::below;
 use crate::generator::eighths;
 use crate::generator::next;
-use descriptions::Described;
-use descriptions::of_kind;
+use descriptions::Description;
 
 // A body in small numbers: its kind by document 01's number, the width, radius and length in eighths, and of its curve the number of vertices
 // and the seed that it is drawn from. What a kind lacks is ignored; `steps` are the longitudes of a capsule and the layers of a closed cylinder.
@@ -27,15 +26,27 @@ pub(crate) struct Triple {
 }
 
 impl Case {
-    pub(crate) fn describe(self) -> Described {
-        of_kind(
-            self.kind as u32,
-            self.divisions as u32,
-            self.steps as u32,
-            self.centred,
-            eighths(self.size),
-            eighths(self.length),
-        )
+    pub(crate) fn describe(self) -> Description {
+        let kind = self.kind;
+        let divisions = self.divisions as u32;
+        let radius = eighths(self.size);
+        match kind {
+            1 => Description::Ribbon { width: radius },
+            2 => Description::Tube { divisions, radius },
+            3 => Description::Capsule {
+                divisions,
+                longitudes: self.steps as u32,
+                radius,
+            },
+            4 => Description::Torus { divisions, radius },
+            _ => Description::ClosedCylinder {
+                divisions,
+                layers: self.steps as u32,
+                centred: self.centred,
+                radius,
+                length: eighths(self.length),
+            },
+        }
     }
 
     // The n of the body's entry: 0 for a ribbon.

@@ -10,7 +10,6 @@ use crate::markers::mark_words;
 use crate::placed::compare_bodies;
 use crate::placed::compare_table;
 use crate::tally::Tally;
-use descriptions::Described;
 
 // The words of a table of 64 bodies.
 const WORDS: usize = 385;
@@ -27,9 +26,7 @@ fn prepare(table: &mut [u32], vertices: &mut [f32], triangles: &mut [u32]) {
 fn add(case: Case, table: &mut [u32], vertices: &mut [f32], triangles: &mut [u32]) {
     let mut space = [0f32; COORDINATES];
     let end = fill_curve(case, &mut space);
-    if let Described::Known(description) = case.describe() {
-        shared_set::add(description, &space[..end], table, vertices, triangles);
-    }
+    shared_set::add(case.describe(), &space[..end], table, vertices, triangles);
 }
 
 fn add_triple(triple: Triple, table: &mut [u32], vertices: &mut [f32], triangles: &mut [u32]) {

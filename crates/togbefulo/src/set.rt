@@ -83,7 +83,8 @@ pub extern "C" fn togbefulo_file_word(
     )
 }
 
-// Clears the set and adds the bodies of a whole list of records; the number that each addition got goes to `answers`.
+// Clears the set and adds the bodies of a whole list of records. The number that each addition got goes to `answers`, as far as it
+// reaches: one for each record of a known kind, in order.
 #[no_mangle]
 pub extern "C" fn togbefulo_build(
     records: &[u32],

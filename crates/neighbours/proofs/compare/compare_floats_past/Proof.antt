@@ -1,4 +1,4 @@
--- At most as many elements differ as were passed. Assumes nothing.
+-- No more elements differ than lie in front of the place. Assumes nothing.
 use mathlib.Core.Logic.{⊎-elim}
 use Prim.Native.Nat.{_-_, _≤_}
 use native.Mathlib.Omega.{arith}
