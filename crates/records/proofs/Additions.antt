@@ -4,7 +4,7 @@ use mathlib.Core.Bool.{Bool, true, false, cond, _&&_}
 use mathlib.Core.List.{List, [], _∷_, _++_}
 use Prim.Native.Nat.{ℕ, zero, suc, _+_, _*_, _≤_}
 use native.Mathlib.Omega.{arith}
-use borrow.Author.Tests.{leb-true}
+use borrow.Author.Tests.{le-leb, leb-true}
 use lib.Dec.{leb}
 use lib.ListN.{length, drop, length-drop}
 use Rattle.laws.specs.Conjunction.{both-true}
@@ -12,26 +12,34 @@ use Rattle.descriptions.specs.Answers.{Answer}
 use Rattle.shared_set.specs.Set.{Buffers}
 use Rattle.ledger.specs.Ledger.{Addition}
 use Rattle.ledger.specs.Calls.{Called, addition, answered, additions}
-use Rattle.records.specs.Records.{headWords, mostVertices, verticesNamed, beginsWithRecord, recordWords, describedIn, curveIn, additionOf, firstAddition, additionsOf, additionsIn}
+use Rattle.records.specs.Records.{headWords, mostVertices, verticesNamed, headNames, beginsWithRecord, recordWords}
+use Rattle.records.specs.Records.{describedIn, curveIn, additionOf, firstAddition, additionsOf, additionsIn}
 
--- what it tells that the words begin with a record
+-- what it tells that the words begin with a record, and which do
 pub record Whole (words : List ℕ) : Type 0 where
   pub head : headWords ≤ length words
   pub few : verticesNamed words ≤ mostVertices
   pub coordinates : headWords + 3 * verticesNamed words ≤ length words
 
 pub whole : (words : List ℕ) → beginsWithRecord words ≡ true → Whole words
-unfolding beginsWithRecord
+unfolding beginsWithRecord headNames
 whole words h =
-    let few = leb (verticesNamed words) mostVertices in
+    let named = headNames words in
     let fits = leb (headWords + 3 * verticesNamed words) (length words) in
-    let first = both-true (leb headWords (length words)) (few && fits) h in
-    let rest = both-true few fits (first .1) in
+    let parts = both-true named fits h in
+    let head = both-true (leb headWords (length words)) (leb (verticesNamed words) mostVertices) (parts .0) in
     record {
-      head = leb-true headWords (length words) (first .0);
-      few = leb-true (verticesNamed words) mostVertices (rest .0);
-      coordinates = leb-true (headWords + 3 * verticesNamed words) (length words) (rest .1);
+      head = leb-true headWords (length words) (head .0);
+      few = leb-true (verticesNamed words) mostVertices (head .1);
+      coordinates = leb-true (headWords + 3 * verticesNamed words) (length words) (parts .1);
     }
+
+pub whole-begins : (words : List ℕ) → Whole words → beginsWithRecord words ≡ true
+unfolding beginsWithRecord headNames
+whole-begins words w =
+    let end = headWords + 3 * verticesNamed words in
+    λ j. (le-leb headWords (length words) (w .head) j && le-leb (verticesNamed words) mostVertices (w .few) j)
+    && le-leb end (length words) (w .coordinates) j
 
 -- what each of the three definitions is, once it is known whether the words begin with a record
 abbrev wordsIf : List ℕ → Bool → ℕ

@@ -1,4 +1,5 @@
 pub mod Additions
+pub mod Lengths
 pub mod Progress
 pub mod Built
 pub mod File

@@ -23,10 +23,17 @@ mostVertices = 512
 abbrev pub verticesNamed : List ℕ → ℕ
 verticesNamed words = getD words 6 0
 
+-- not "a curve count over 512", nor too short to have one
+unfoldable pub headNames : List ℕ → Bool
+headNames words = leb headWords (length words) && leb (verticesNamed words) mostVertices
+
+-- the length of the record with this head, 0 where the head is none
+abbrev pub lengthNamed : List ℕ → ℕ
+lengthNamed words = cond (headNames words) (headWords + 3 * verticesNamed words) 0
+
 -- not "a short record or a curve count over 512"
 unfoldable pub beginsWithRecord : List ℕ → Bool
-beginsWithRecord words =
-    leb headWords (length words) && (leb (verticesNamed words) mostVertices && leb (headWords + 3 * verticesNamed words) (length words))
+beginsWithRecord words = headNames words && leb (headWords + 3 * verticesNamed words) (length words)
 
 -- the length of the record that the words begin with, 0 where they begin with none
 abbrev pub recordWords : List ℕ → ℕ

@@ -1,7 +1,7 @@
 ghost use mathlib.Core.Path.{_≡_};
 ghost use Prim.Native.Nat.{_≤_};
 ghost use lib.ListN.{length};
-ghost use Rattle.records.specs.Records.{recordWords, describedIn};
+ghost use Rattle.records.specs.Records.{lengthNamed, recordWords, describedIn};
 use descriptions::Described;
 use descriptions::of_kind;
 use float32::from_word;
@@ -10,20 +10,31 @@ use float32::from_word;
 pub const HEAD_WORDS: usize = 7;
 
 // The most vertices that a record's curve may have.
-pub const MOST_VERTICES: usize = 512;
+const MOST_VERTICES: usize = 512;
+
+// The length of the record with this head, 0 where it is too short or names too many vertices.
+pub fn record_length(head: &[u32]) -> usize
+    ensures { λ r. ⌜ r ≡ lengthNamed (now (head .entry)) ⌝ }
+{
+    if head.len() < HEAD_WORDS {
+        return 0;
+    }
+    let vertices = head[6] as usize;
+    if vertices > MOST_VERTICES {
+        return 0;
+    }
+    HEAD_WORDS + 3 * vertices
+}
 
 // The length of the record that `words` begins with, 0 where it is short or has too many vertices.
 pub fn record_words(words: &[u32]) -> usize
     ensures { λ r. ⌜ r ≡ recordWords (now (words .entry)) ⌝ }
 {
-    if words.len() < HEAD_WORDS {
+    let count = record_length(words);
+    if count > words.len() {
         return 0;
     }
-    let vertices = words[6] as usize;
-    if vertices > MOST_VERTICES || HEAD_WORDS + 3 * vertices > words.len() {
-        return 0;
-    }
-    HEAD_WORDS + 3 * vertices
+    count
 }
 
 // What the head of a record describes.

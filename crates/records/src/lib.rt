@@ -7,6 +7,6 @@ mod reply;
 pub use building::build;
 pub use first::add_first;
 pub use head::HEAD_WORDS;
-pub use head::MOST_VERTICES;
+pub use head::record_length;
 pub use head::record_words;
 pub use reply::Reply;
