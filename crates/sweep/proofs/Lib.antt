@@ -1,2 +1,2 @@
-pub mod Rest
-pub mod Pieces
+pub mod Filled
+pub mod Whole

@@ -1,10 +1,14 @@
 ghost use mathlib.Core.Path.{_≡_};
 ghost use Prim.Native.Nat.{_≤_};
-ghost use lib.ListN.{length};
+ghost use lib.ListN.{length, take};
+ghost use Rattle.shared_set.specs.Set.{buffers};
+ghost use Rattle.ledger.specs.Calls.{additions};
+ghost use Rattle.records.specs.Records.{recordWords, firstAddition};
 use little_endian::read_words;
 use records::HEAD_WORDS;
-use records::MOST_VERTICES;
 use records::add_first;
+use records::record_length;
+use records::record_words;
 
 // The words, and the bytes, of the longest record.
 const WORDS: usize = 1543;
@@ -12,27 +16,38 @@ const WORDS: usize = 1543;
 const BYTES: usize = 6172;
 
 // The next record of standard input to the front of `words`, by way of `bytes`, and its length; 0 where the input ends before it does, or it
-// has too many vertices.
+// has too many vertices. What it hands on is one record, whole and alone.
 fn read_record(bytes: &mut [u8], words: &mut [u32]) -> usize
     requires { ⌜ 6172 ≡ length (now bytes) ⌝ }
     requires { ⌜ 1543 ≡ length (now words) ⌝ }
     ensures { λ r. ⌜ r ≤ length (now (words .exit)) ⌝ }
+    ensures { λ r. ⌜ r ≡ recordWords (take r (now (words .exit))) ⌝ }
 {
-    let head = 4 * HEAD_WORDS;
+    let front = HEAD_WORDS;
+    let head = 4 * front;
     if io::read_full(0, &mut bytes[..head]) < head {
         return 0;
     }
     read_words(&bytes[..head], words);
-    let vertices = words[6] as usize;
-    if vertices > MOST_VERTICES {
+    let count = record_length(&words[..front]);
+    if count == 0 {
         return 0;
     }
-    let end = head + 12 * vertices;
+    let end = 4 * count;
     if io::read_full(0, &mut bytes[head..end]) < end - head {
         return 0;
     }
     read_words(&bytes[..end], words);
-    end / 4
+    record_words(&words[..count])
+}
+
+// Adds the body of one record, whole and alone.
+fn add_record(words: &[u32], table: &mut [u32], vertices: &mut [f32], triangles: &mut [u32])
+    requires { ⌜ length (now words) ≡ recordWords (now words) ⌝ }
+    ensures { λ _. let s = buffers (now (table .entry)) (now (vertices .entry)) (now (triangles .entry)) in
+        ⌜ buffers (now (table .exit)) (now (vertices .exit)) (now (triangles .exit)) ≡ additions (firstAddition (now (words .entry))) s .left ⌝ }
+{
+    add_first(words, table, vertices, triangles);
 }
 
 // Adds the body of each record of standard input. The count ends the loop by itself, if the input never does.
@@ -47,7 +62,7 @@ pub(crate) fn add_records(table: &mut [u32], vertices: &mut [f32], triangles: &m
         if end == 0 {
             return;
         }
-        add_first(&words[..end], table, vertices, triangles);
+        add_record(&words[..end], table, vertices, triangles);
         count += 1;
     }
 }

@@ -1,9 +1,10 @@
--- No turn of the loop changes a buffer's length, and the count ends it. Assumes nothing.
-use mathlib.Core.Path.{_≡_}
+-- What was read is one record; no turn of the loop changes a buffer's length, and the count ends it. Assumes nothing.
+use mathlib.Core.Path.{_≡_, _∙_}
 use Prim.Native.Nat.{_-_}
 use native.Mathlib.Omega.{arith}
 use borrow.Author.Needs.{needs}
 use lib.ListN.{length, length-take}
+use lib.Seq.{length-take-le}
 use Rattle.sweep.proofs.input.add_records.Statement.{statement}
 use Rattle.sweep.proofs.input.add_records.Tie as tie
 
@@ -39,14 +40,16 @@ same-length-3 c = search needs
 returns : tie.Need-returns Inv-loop μ-loop
 returns c = search needs
 
-slice-reshare-prefix-add-first : tie.Need-slice-reshare-prefix-add-first Inv-loop μ-loop
-slice-reshare-prefix-add-first c = omega arith
+slice-reshare-prefix-add-record : tie.Need-slice-reshare-prefix-add-record Inv-loop μ-loop
+slice-reshare-prefix-add-record c = omega arith
 
-slice-aggregate-add-first : tie.Need-slice-aggregate-add-first Inv-loop μ-loop
-slice-aggregate-add-first c = simp length-take (omega arith)
+slice-aggregate-add-record : tie.Need-slice-aggregate-add-record Inv-loop μ-loop
+slice-aggregate-add-record c = simp length-take (omega arith)
 
-add-first-requires : tie.Need-add-first-requires Inv-loop μ-loop
-add-first-requires c κs = search needs
+add-record-requires : tie.Need-add-record-requires Inv-loop μ-loop
+add-record-requires c κs =
+    let read = c .before .before .before .before .before .before .before .before .before .read-record .ensures in
+    length-take-le _ _ (read .0) ∙ read .1
 
 add-count : tie.Need-add-count Inv-loop μ-loop
 add-count c = omega arith
@@ -83,9 +86,9 @@ add-records-spec =
     same-length-2
     same-length-3
     returns
-    slice-reshare-prefix-add-first
-    slice-aggregate-add-first
-    add-first-requires
+    slice-reshare-prefix-add-record
+    slice-aggregate-add-record
+    add-record-requires
     add-count
     loop-less
     loop-again

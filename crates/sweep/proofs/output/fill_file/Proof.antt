@@ -5,22 +5,19 @@ use borrow.Author.Needs.{needs}
 use denote.Ref.{now}
 use lib.ListN.{length}
 use Rattle.shared_set.specs.Set.{buffers}
-use Rattle.sweep.specs.Pieces.{fileFrom}
-use Rattle.sweep.proofs.Rest.{word-told, end-told, Filled, none-filled, one-filled, no-word-left, no-room-left}
+use Rattle.sweep.specs.File.{fileWords}
+use Rattle.sweep.proofs.Filled.{word-told, end-told, Filled, none-filled, one-filled, no-word-left, no-room-left}
 use Rattle.sweep.proofs.output.fill_file.Statement.{statement}
 use Rattle.sweep.proofs.output.fill_file.Tie as tie
 
 abbrev Inv-loop : tie.InvT-loop
-Inv-loop table vertices triangles place out₀ i₀ out i = Filled (fileFrom (buffers table vertices triangles) place) out₀ i out
+Inv-loop table vertices triangles words₀ i₀ words i = Filled (fileWords (buffers table vertices triangles)) words₀ i words
 
 abbrev μ-loop : tie.MeasureT-loop
-μ-loop table vertices triangles place out₀ i₀ out i = length out₀ - i
+μ-loop table vertices triangles words₀ i₀ words i = length words₀ - i
 
 loop-holds : tie.Need-loop-holds Inv-loop μ-loop
 loop-holds c = none-filled _ _
-
-add-file-word : tie.Need-add-file-word Inv-loop μ-loop
-add-file-word c = omega arith
 
 file-word-requires : tie.Need-file-word-requires Inv-loop μ-loop
 file-word-requires c κs = search needs
@@ -38,16 +35,16 @@ returns c =
     let a = found .before .before .before .before .before .before .before .args in
     let s = buffers (now (a .table)) (now (a .vertices)) (now (a .triangles)) in
     let refused = rw (c .enum-told .given .1) at (found .file-word .ensures) in
-    no-word-left (fileFrom s (a .place)) (now (a .out)) (l .inv) (end-told s (a .place) (l .i) refused)
+    no-word-left (fileWords s) (now (a .words)) (l .inv) (end-told s (l .i) refused)
 
 enum-known-w : tie.Need-enum-known-w Inv-loop μ-loop
 enum-known-w c = search needs
 
-mul-out : tie.Need-mul-out Inv-loop μ-loop
-mul-out c = omega arith
+mul-words : tie.Need-mul-words Inv-loop μ-loop
+mul-words c = omega arith
 
-slice-write-out : tie.Need-slice-write-out Inv-loop μ-loop
-slice-write-out c = omega arith
+slice-write-words : tie.Need-slice-write-words Inv-loop μ-loop
+slice-write-words c = omega arith
 
 add-i : tie.Need-add-i Inv-loop μ-loop
 add-i c = omega arith
@@ -61,8 +58,8 @@ loop-again c =
     let l = found .before .before .loop in
     let a = found .before .before .before .before .before .before .before .args in
     let s = buffers (now (a .table)) (now (a .vertices)) (now (a .triangles)) in
-    let word = word-told s (a .place) (l .i) (rw (c .before .w .given .1) at (found .file-word .ensures)) in
-    one-filled (fileFrom s (a .place)) (now (a .out)) (l .inv) (found .before .loop-test .taken) (word .0) (word .1)
+    let word = word-told s (l .i) (rw (c .before .w .given .1) at (found .file-word .ensures)) in
+    one-filled (fileWords s) (now (a .words)) (l .inv) (found .before .loop-test .taken) (word .0) (word .1)
 
 same-length-2 : tie.Need-same-length-2 Inv-loop μ-loop
 same-length-2 c = search needs
@@ -77,14 +74,13 @@ fill-file-spec =
     Inv-loop
     μ-loop
     loop-holds
-    add-file-word
     file-word-requires
     enum-told
     same-length
     returns
     enum-known-w
-    mul-out
-    slice-write-out
+    mul-words
+    slice-write-words
     add-i
     loop-less
     loop-again
