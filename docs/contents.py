@@ -2,7 +2,7 @@
 """Prints what a file of `sweep` holds: its counts, and a line for each body of its table of contents.
 
     python3 docs/contents.py examples/harness.set
-    sweep < examples/harness.records | python3 docs/contents.py
+    target/bin/sweep < examples/harness.records | python3 docs/contents.py
 """
 
 import struct
