@@ -21,7 +21,7 @@ use Rattle.descriptions.proofs.Shapes.{shape-permitted, shape-bounds, checked-s
 use Rattle.bodies.specs.Bodies.{verticesOf}
 use Rattle.bodies.proofs.Lengths.{length-vertices}
 use Rattle.shared_set.specs.Bodies.{Body, bodyAlone}
-use Rattle.shared_set.specs.Table.{lastKind}
+use Rattle.set_table.specs.Table.{lastKind}
 use Rattle.shared_set.proofs.Counts.{vertices-counted}
 use Rattle.shared_set.proofs.KindNumbers.{kind-between}
 use Rattle.ledger.specs.Demand3.{Sound}

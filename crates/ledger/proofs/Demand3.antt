@@ -11,7 +11,8 @@ use Rattle.laws.specs.Overlaps.{overwrite-front}
 use Rattle.descriptions.specs.Answers.{accepted}
 use Rattle.descriptions.specs.Refusals.{test}
 use Rattle.descriptions.proofs.FirstOf.{accepted-by}
-use Rattle.shared_set.specs.Set.{Buffers, buffers, lengthsOf, After, clearAnswer}
+use Rattle.set_table.specs.Buffers.{Buffers, buffers, lengthsOf}
+use Rattle.shared_set.specs.Set.{After, clearAnswer}
 use Rattle.ledger.specs.Ledger.{Ledger, empty, Addition, replyTo, repliesTo, entered, final, setTable, setVertices, setTriangles, stainedBy, stained}
 use Rattle.ledger.specs.Calls.{Called, answered, additions, clearedSet, clearAndAdd}
 use Rattle.ledger.specs.Demand3.{Demand3Whole, ledgerOf, stainedVertices}

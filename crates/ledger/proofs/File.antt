@@ -9,11 +9,11 @@ use lib.ListN.{length, drop, take, length-drop}
 use Rattle.laws.specs.Overwrite.{overwrite}
 use Rattle.laws.specs.Lent.{part-written}
 use Rattle.descriptions.specs.Answers.{refused}
-use Rattle.shared_set.specs.Additions.{entryWords}
-use Rattle.shared_set.specs.Table.{totalsIn}
-use Rattle.shared_set.specs.Set.{Buffers}
-use Rattle.shared_set.specs.File.{fileOf, entriesHeld, verticesHeld, trianglesHeld, fileIn, wordIn, fileWordOf}
-use Rattle.shared_set.specs.declared.totals.Totals.{Totals}
+use Rattle.set_table.specs.Room.{entryWords}
+use Rattle.set_table.specs.Table.{totalsIn}
+use Rattle.set_table.specs.Buffers.{Buffers}
+use Rattle.set_file.specs.File.{fileOf, entriesHeld, verticesHeld, trianglesHeld, fileIn, wordIn, fileWordOf}
+use Rattle.set_table.specs.declared.totals.Totals.{Totals}
 use Rattle.ledger.specs.Ledger.{Ledger, bodyCount, vertexSum, triangleSum, totalsOf, entriesOf, setVertices, setTriangles}
 use Rattle.ledger.specs.Calls.{Called}
 use Rattle.ledger.specs.Demand3.{ledgerOf, stainedVertices}

@@ -4,7 +4,7 @@ use Prim.Native.Nat.{_*_}
 use native.Mathlib.Omega.{arith}
 use lib.ListN.{length, length-append}
 use Rattle.surface.specs.Triangles.{flatten, shift}
-use Rattle.shared_set.specs.Additions.{entryWords, tableWords}
+use Rattle.set_table.specs.Room.{entryWords, tableWords}
 use Rattle.ledger.specs.Ledger.{Ledger, empty, then, bodyCount, vertexSum, triangleSum, entryBehind, entriesOf, setTable, setVertices, setTriangles}
 use Rattle.ledger.specs.Demand3.{EachSound}
 use Rattle.ledger.proofs.Bodies.{length-shifted}

@@ -2,7 +2,8 @@
 -- Definitions only.
 use mathlib.Core.List.{List, [], _∷_}
 use Rattle.descriptions.specs.Answers.{Answer}
-use Rattle.shared_set.specs.Set.{Buffers, buffers, After, cleared, added}
+use Rattle.set_table.specs.Buffers.{Buffers, buffers}
+use Rattle.shared_set.specs.Set.{After, cleared, added}
 use Rattle.ledger.specs.Ledger.{Addition}
 
 -- the calls' answers, and the buffers after the last

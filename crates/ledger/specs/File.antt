@@ -4,8 +4,9 @@ use mathlib.Core.Path.{_≡_}
 use mathlib.Core.List.{List}
 use Prim.Native.Nat.{ℕ}
 use Rattle.descriptions.specs.Answers.{accepted}
-use Rattle.shared_set.specs.Set.{Buffers, clearAnswer}
-use Rattle.shared_set.specs.File.{fileOf, wordIn, fileWordOf}
+use Rattle.set_table.specs.Buffers.{Buffers}
+use Rattle.shared_set.specs.Set.{clearAnswer}
+use Rattle.set_file.specs.File.{fileOf, wordIn, fileWordOf}
 use Rattle.ledger.specs.Ledger.{Ledger, totalsOf, Addition, entriesOf, setVertices, setTriangles}
 use Rattle.ledger.specs.Calls.{clearAndAdd}
 use Rattle.ledger.specs.Demand3.{ledgerOf}

@@ -9,7 +9,7 @@ use lib.Dec.{leb}
 use lib.ListN.{length, drop, length-drop}
 use Rattle.laws.specs.Conjunction.{both-true}
 use Rattle.descriptions.specs.Answers.{Answer}
-use Rattle.shared_set.specs.Set.{Buffers}
+use Rattle.set_table.specs.Buffers.{Buffers}
 use Rattle.ledger.specs.Ledger.{Addition}
 use Rattle.ledger.specs.Calls.{Called, addition, answered, additions}
 use Rattle.records.specs.Records.{headWords, mostVertices, verticesNamed, headNames, beginsWithRecord, recordWords}

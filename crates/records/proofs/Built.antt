@@ -2,7 +2,8 @@
 use mathlib.Core.Path.{_≡_}
 use mathlib.Core.List.{List}
 use Rattle.descriptions.specs.Answers.{accepted}
-use Rattle.shared_set.specs.Set.{Buffers, buffers, lengthsOf, clearAnswer}
+use Rattle.set_table.specs.Buffers.{Buffers, buffers, lengthsOf}
+use Rattle.shared_set.specs.Set.{clearAnswer}
 use Rattle.ledger.specs.Ledger.{Addition, empty, repliesTo}
 use Rattle.ledger.specs.Calls.{clearAndAdd}
 use Rattle.ledger.proofs.Demand3.{demand-3}

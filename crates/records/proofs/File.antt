@@ -1,7 +1,7 @@
 -- The buffers that build leaves are those of the calls, so their file is the ledger's. Assumes nothing.
 use mathlib.Core.Path.{sym, ap, _∙_}
 use Rattle.descriptions.specs.Answers.{Answer}
-use Rattle.shared_set.specs.File.{fileWordOf}
+use Rattle.set_file.specs.File.{fileWordOf}
 use Rattle.ledger.specs.Calls.{Called}
 use Rattle.ledger.proofs.File.{file-of-set}
 use Rattle.records.specs.Records.{additionsIn}

@@ -9,7 +9,7 @@ use lib.ListN.{length, drop, length-append, length-drop, length-map}
 use lib.Seq.{drop-drop}
 use Rattle.laws.specs.Overwrite.{overwrite, overwrite-none, written-behind}
 use Rattle.descriptions.specs.Answers.{Answer, numberIn}
-use Rattle.shared_set.specs.Set.{Buffers, lengthsOf}
+use Rattle.set_table.specs.Buffers.{Buffers, lengthsOf}
 use Rattle.ledger.specs.Ledger.{Addition}
 use Rattle.ledger.specs.Calls.{Called, additions}
 use Rattle.records.specs.Records.{beginsWithRecord, recordWords, firstAddition, additionsIn}

@@ -5,7 +5,8 @@ use lib.Ieee.{Float}
 use Rattle.laws.specs.Overwrite.{overwrite}
 use Rattle.descriptions.specs.Answers.{Answer, refused, accepted, numberIn}
 use Rattle.shared_set.specs.Answers.{outcomeAnswer}
-use Rattle.shared_set.specs.Set.{Buffers, buffers, lengthsOf, clearAnswer}
+use Rattle.set_table.specs.Buffers.{Buffers, buffers, lengthsOf}
+use Rattle.shared_set.specs.Set.{clearAnswer}
 use Rattle.ledger.specs.Ledger.{empty, Addition, repliesTo, setTable, setVertices, setTriangles}
 use Rattle.ledger.specs.Calls.{Called}
 use Rattle.ledger.specs.Demand3.{ledgerOf, stainedVertices, beginsWith}

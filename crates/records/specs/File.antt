@@ -5,8 +5,9 @@ use mathlib.Core.Path.{_≡_}
 use mathlib.Core.List.{List}
 use Prim.Native.Nat.{ℕ}
 use Rattle.descriptions.specs.Answers.{accepted}
-use Rattle.shared_set.specs.Set.{Buffers, clearAnswer}
-use Rattle.shared_set.specs.File.{wordIn, fileWordOf}
+use Rattle.set_table.specs.Buffers.{Buffers}
+use Rattle.shared_set.specs.Set.{clearAnswer}
+use Rattle.set_file.specs.File.{wordIn, fileWordOf}
 use Rattle.ledger.specs.Demand3.{ledgerOf}
 use Rattle.ledger.specs.File.{setFile}
 use Rattle.records.specs.Records.{additionsIn}

@@ -3,7 +3,7 @@ ghost use Prim.Native.Nat.{_+_, _≤_};
 ghost use lib.ListN.{length};
 ghost use Rattle.laws.specs.Overwrite.{overwrite};
 ghost use Rattle.shared_set.specs.Answers.{outcomeAnswer};
-ghost use Rattle.shared_set.specs.Set.{buffers};
+ghost use Rattle.set_table.specs.Buffers.{buffers};
 ghost use Rattle.ledger.specs.Calls.{additions};
 ghost use Rattle.records.specs.Records.{additionsIn};
 ghost use Rattle.records.specs.Built.{repliesIn, numbersOf, built, builtOf};

@@ -18,12 +18,15 @@ use Rattle.descriptions.specs.declared.description.Description.{Description}
 use Rattle.descriptions.proofs.FirstOf.{accepted-by, passed-by, refused-by}
 use Rattle.descriptions.proofs.Shapes.{checked-shape}
 use Rattle.shared_set.specs.Bodies.{Body, vertexCountIn, triangleCountIn, bodyAlone}
-use Rattle.shared_set.specs.Additions.{Lengths, roomTests, finiteTests, placeTests, additionTests}
-use Rattle.shared_set.specs.Answers.{whyNumber, notFinite}
-use Rattle.shared_set.specs.Set.{Buffers, after, withZeros, settledAs}
-use Rattle.shared_set.specs.declared.answers.Why.{Why}
-use Rattle.shared_set.specs.declared.answers.Why.the-variants as why
-use Rattle.shared_set.specs.declared.totals.Totals.{Totals}
+use Rattle.set_table.specs.Room.{Lengths, roomTests}
+use Rattle.shared_set.specs.Additions.{finiteTests, placeTests, additionTests}
+use Rattle.set_table.specs.Answers.{whyNumber}
+use Rattle.shared_set.specs.Answers.{notFinite}
+use Rattle.set_table.specs.Buffers.{Buffers}
+use Rattle.shared_set.specs.Set.{after, withZeros, settledAs}
+use Rattle.set_table.specs.declared.answers.Why.{Why}
+use Rattle.set_table.specs.declared.answers.Why.the-variants as why
+use Rattle.set_table.specs.declared.totals.Totals.{Totals}
 use Rattle.shared_set.proofs.Counts.{vertices-counted, triangles-counted}
 
 -- 23 is no refusal's number: it has an outcome of its own

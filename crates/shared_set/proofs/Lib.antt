@@ -1,6 +1,3 @@
-pub mod Tables
 pub mod Counts
-pub mod Fitting
-pub mod Additions
-pub mod Files
+mod Additions
 pub mod KindNumbers

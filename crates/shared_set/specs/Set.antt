@@ -12,24 +12,14 @@ use Rattle.surface.specs.Triangles.{flatten, shift}
 use Rattle.descriptions.specs.Answers.{Answer, Test, refused, accepted, firstOf}
 use Rattle.descriptions.specs.Refusals.{test}
 use Rattle.descriptions.specs.declared.description.Description.{Description}
+use Rattle.set_table.specs.Room.{tableWords}
+use Rattle.set_table.specs.Buffers.{Buffers, buffers, lengthsOf}
+use Rattle.set_table.specs.Table.{wordsOf, totalsIn, undamaged}
+use Rattle.set_table.specs.declared.totals.Totals.{Totals}
+use Rattle.set_table.specs.declared.entries.Entry.{Entry}
 use Rattle.shared_set.specs.Bodies.{Body, vertexCountIn, triangleCountIn, bodyAlone}
-use Rattle.shared_set.specs.Additions.{Lengths, lengths, tableWords, finiteTests, additionTests}
+use Rattle.shared_set.specs.Additions.{finiteTests, additionTests}
 use Rattle.shared_set.specs.Answers.{notFinite}
-use Rattle.shared_set.specs.Table.{wordsOf, totalsIn, undamaged}
-use Rattle.shared_set.specs.declared.totals.Totals.{Totals}
-use Rattle.shared_set.specs.declared.entries.Entry.{Entry}
-
--- the three buffers that are lent
-pub record Buffers : Type 0 where
-  pub table : List ℕ
-  pub vertices : List Float
-  pub triangles : List ℕ
-
-abbrev pub buffers : List ℕ → List Float → List ℕ → Buffers
-buffers table vertices triangles = record { table = table; vertices = vertices; triangles = triangles }
-
-abbrev pub lengthsOf : Buffers → Lengths
-lengthsOf s = lengths (length (s .table)) (length (s .vertices)) (length (s .triangles))
 
 -- a call's answer, and the buffers after it
 pub record After : Type 0 where

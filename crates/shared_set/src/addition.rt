@@ -1,18 +1,19 @@
 ghost use mathlib.Core.Path.{_≡_};
-ghost use Prim.Native.Nat.{_≤_, _^_};
-ghost use Rattle.shared_set.specs.Additions.{mostBodies};
+ghost use Prim.Native.Nat.{_≤_};
+ghost use Rattle.set_table.specs.Room.{mostBodies};
 ghost use Rattle.shared_set.specs.Answers.{outcomeAnswer};
-ghost use Rattle.shared_set.specs.Set.{buffers, after, addedBehind, added};
+ghost use Rattle.set_table.specs.Buffers.{buffers};
+ghost use Rattle.shared_set.specs.Set.{after, addedBehind, added};
 use crate::answers::Outcome;
-use crate::answers::Why;
 use crate::place::place;
-use crate::room::Room;
-use crate::room::check_room;
-use crate::table::read;
-use crate::totals::Reading;
-use crate::totals::Totals;
 use descriptions::Description;
 use descriptions::Verdict;
+use set_table::Reading;
+use set_table::Room;
+use set_table::Totals;
+use set_table::Why;
+use set_table::check_room;
+use set_table::read;
 
 // The refusals behind 1, and the body behind those that the table has.
 fn add_behind(
@@ -24,8 +25,6 @@ fn add_behind(
     triangles: &mut [u32],
 ) -> Outcome
     requires { ⌜ totals .bodies ≤ mostBodies ⌝ }
-    requires { ⌜ totals .vertices ≤ 2 ^ 28 ⌝ }
-    requires { ⌜ totals .triangles ≤ 2 ^ 28 ⌝ }
     ensures { λ r. ⌜ after (outcomeAnswer r) (now (table .exit)) (now (vertices .exit)) (now (triangles .exit))
         ≡ addedBehind description (now (curve .entry)) totals (buffers (now (table .entry)) (now (vertices .entry)) (now (triangles .entry))) ⌝ }
 {

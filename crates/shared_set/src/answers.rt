@@ -1,33 +1,7 @@
 ghost use mathlib.Core.Path.{_≡_};
 ghost use Rattle.descriptions.specs.Answers.{numberIn};
-ghost use Rattle.shared_set.specs.Answers.{whyNumber, outcomeAnswer};
-use descriptions::Refusal;
-
-// Why a call is refused; document 01's number for each is `whyNumber` in specs/Answers.antt.
-pub enum Why {
-    DamagedTable,
-    NoEntry,
-    NoVertices,
-    NoTriangles,
-    PastEnd,
-    Body(Refusal),
-}
-
-impl Why {
-    // Document 01's number.
-    pub fn number(self) -> u32
-        ensures { λ r. ⌜ r ≡ whyNumber self ⌝ }
-    {
-        match self {
-            Why::DamagedTable => 1,
-            Why::NoEntry => 2,
-            Why::NoVertices => 3,
-            Why::NoTriangles => 4,
-            Why::PastEnd => 5,
-            Why::Body(why) => why.number(),
-        }
-    }
-}
+ghost use Rattle.shared_set.specs.Answers.{outcomeAnswer};
+use set_table::Why;
 
 // What clear and add answer. What is not finite, 23, alone touches a buffer though it is refused.
 pub enum Outcome {
@@ -47,10 +21,4 @@ impl Outcome {
             Outcome::Refused(why) => why.number(),
         }
     }
-}
-
-// What file word answers.
-pub enum FileWord {
-    Word(u32),
-    Refused(Why),
 }

@@ -2,7 +2,7 @@ ghost use mathlib.Core.Path.{_≡_};
 ghost use Rattle.shared_set.specs.Answers.{outcomeAnswer};
 ghost use Rattle.shared_set.specs.Set.{clearAnswer, cleared};
 use crate::answers::Outcome;
-use crate::answers::Why;
+use set_table::Why;
 
 // Word 0 becomes 0, whatever the table holds; 1 for an empty one.
 pub fn clear(table: &mut [u32]) -> Outcome

@@ -2,16 +2,9 @@
 mod addition;
 mod answers;
 mod clearing;
-mod entries;
-mod file;
+mod entry;
 mod place;
-mod room;
-mod table;
-mod totals;
 
 pub use addition::add;
-pub use answers::FileWord;
 pub use answers::Outcome;
-pub use answers::Why;
 pub use clearing::clear;
-pub use file::file_word;

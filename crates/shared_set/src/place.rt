@@ -10,15 +10,16 @@ ghost use Rattle.descriptions.specs.Descriptions.{topologyOf};
 ghost use Rattle.descriptions.specs.Refusals.{ShapePermitted};
 ghost use Rattle.bodies.specs.Bodies.{verticesOf};
 ghost use Rattle.shared_set.specs.Bodies.{kindNumber, divisionsOf};
-ghost use Rattle.shared_set.specs.Additions.{Fits};
+ghost use Rattle.set_table.specs.Room.{Fits};
 ghost use Rattle.shared_set.specs.Answers.{outcomeAnswer};
-ghost use Rattle.shared_set.specs.Set.{buffers, lengthsOf, after, placedOf};
+ghost use Rattle.set_table.specs.Buffers.{buffers, lengthsOf};
+ghost use Rattle.shared_set.specs.Set.{after, placedOf};
 use crate::answers::Outcome;
-use crate::entries::Entry;
-use crate::entries::write_entry;
-use crate::totals::Totals;
+use crate::entry::write_entry;
 use descriptions::Description;
 use kinds::Topology;
+use set_table::Entry;
+use set_table::Totals;
 
 fn kind_number(description: Description) -> u32
     ensures { λ r. ⌜ r ≡ kindNumber description ⌝ }

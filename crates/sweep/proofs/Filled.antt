@@ -14,9 +14,9 @@ use Rattle.laws.specs.Overwrite.{overwrite, overwrite-none, written-behind, ove
 use Rattle.descriptions.specs.Answers.{Answer, refused, accepted, firstOf}
 use Rattle.descriptions.specs.Refusals.{test}
 use Rattle.descriptions.proofs.FirstOf.{accepted-by}
-use Rattle.shared_set.specs.Table.{totalsIn, undamaged}
-use Rattle.shared_set.specs.Set.{Buffers}
-use Rattle.shared_set.specs.File.{fileIn, endTests, fileWordOf}
+use Rattle.set_table.specs.Table.{totalsIn, undamaged}
+use Rattle.set_table.specs.Buffers.{Buffers}
+use Rattle.set_file.specs.File.{fileIn, endTests, fileWordOf}
 use Rattle.sweep.specs.File.{fileWords}
 
 -- the words of a file that is there or not, and the answer for its word at a place

@@ -11,11 +11,11 @@ use lib.ListN.{length, getD, take, drop, length-append, length-drop, length-map,
 use Rattle.laws.specs.Overwrite.{overwrite, placed}
 use Rattle.laws.specs.Blocks.{length-blocks}
 use Rattle.laws.specs.Lent.{part-written}
-use Rattle.shared_set.specs.Additions.{entryWords}
-use Rattle.shared_set.specs.Table.{totalsIn, undamaged}
-use Rattle.shared_set.specs.Set.{Buffers}
-use Rattle.shared_set.specs.File.{fileHead, fileBehind, entriesHeld, verticesHeld, trianglesHeld, fileIn}
-use Rattle.shared_set.specs.declared.totals.Totals.{Totals}
+use Rattle.set_table.specs.Room.{entryWords}
+use Rattle.set_table.specs.Table.{totalsIn, undamaged}
+use Rattle.set_table.specs.Buffers.{Buffers}
+use Rattle.set_file.specs.File.{fileHead, fileBehind, entriesHeld, verticesHeld, trianglesHeld, fileIn}
+use Rattle.set_table.specs.declared.totals.Totals.{Totals}
 use Rattle.little_endian.specs.Words.{bytesOf, bytesIn}
 use Rattle.sweep.specs.File.{fileWords}
 

@@ -3,9 +3,9 @@ use mathlib.Core.Bool.{cond}
 use mathlib.Core.List.{List, []}
 use Prim.Native.Nat.{ℕ}
 use lib.ListN.{length}
-use Rattle.shared_set.specs.Table.{totalsIn, undamaged}
-use Rattle.shared_set.specs.Set.{Buffers}
-use Rattle.shared_set.specs.File.{fileIn}
+use Rattle.set_table.specs.Table.{totalsIn, undamaged}
+use Rattle.set_table.specs.Buffers.{Buffers}
+use Rattle.set_file.specs.File.{fileIn}
 use Rattle.little_endian.specs.Words.{bytesIn}
 
 -- none where the table is damaged

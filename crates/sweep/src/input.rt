@@ -1,7 +1,7 @@
 ghost use mathlib.Core.Path.{_≡_};
 ghost use Prim.Native.Nat.{_≤_};
 ghost use lib.ListN.{length, take};
-ghost use Rattle.shared_set.specs.Set.{buffers};
+ghost use Rattle.set_table.specs.Buffers.{buffers};
 ghost use Rattle.ledger.specs.Calls.{additions};
 ghost use Rattle.records.specs.Records.{recordWords, firstAddition};
 use little_endian::read_words;

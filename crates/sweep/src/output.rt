@@ -2,11 +2,11 @@ ghost use mathlib.Core.Path.{_≡_};
 ghost use Prim.Native.Nat.{min};
 ghost use lib.ListN.{length};
 ghost use Rattle.laws.specs.Overwrite.{overwrite};
-ghost use Rattle.shared_set.specs.Set.{buffers};
+ghost use Rattle.set_table.specs.Buffers.{buffers};
 ghost use Rattle.sweep.specs.File.{fileWords, fileBytes};
 use little_endian::write_words;
-use shared_set::FileWord;
-use shared_set::file_word;
+use set_file::FileWord;
+use set_file::file_word;
 
 // The words, and the bytes, of the longest file: its head, 64 entries and both buffers full.
 const WORDS: usize = 24964;

@@ -7,7 +7,8 @@ use Rattle.laws.specs.Overwrite.{overwrite}
 use Rattle.descriptions.specs.Answers.{Answer, refused, accepted}
 use Rattle.descriptions.specs.declared.kind.Described.{Described}
 use Rattle.descriptions.specs.declared.kind.Described.the-variants.{Known, Unknown}
-use Rattle.shared_set.specs.Set.{Buffers, After, added}
+use Rattle.set_table.specs.Buffers.{Buffers}
+use Rattle.shared_set.specs.Set.{After, added}
 use Rattle.togbefulo.specs.Face.{unknownKind}
 
 abbrev pub addedAs : Described → List Float → Buffers → After

@@ -3,15 +3,16 @@
 ghost use mathlib.Core.Path.{_≡_};
 ghost use Rattle.descriptions.specs.Answers.{numberIn};
 ghost use Rattle.descriptions.specs.KindNumbers.{describedOf};
-ghost use Rattle.shared_set.specs.Answers.{wordAnswer};
-ghost use Rattle.shared_set.specs.Set.{buffers, clearAnswer, cleared};
-ghost use Rattle.shared_set.specs.File.{fileWordOf};
+ghost use Rattle.set_file.specs.Answers.{wordAnswer};
+ghost use Rattle.set_table.specs.Buffers.{buffers};
+ghost use Rattle.shared_set.specs.Set.{clearAnswer, cleared};
+ghost use Rattle.set_file.specs.File.{fileWordOf};
 ghost use Rattle.records.specs.Built.{builtOf};
 ghost use Rattle.togbefulo.specs.SetFace.{addedAs, wordAfter};
 use crate::alone::UNKNOWN_KIND;
 use descriptions::Described;
 use descriptions::of_kind;
-use shared_set::FileWord;
+use set_file::FileWord;
 
 // Word 0 of the table becomes 0; 1 for an empty table.
 #[no_mangle]
@@ -77,10 +78,7 @@ pub extern "C" fn togbefulo_file_word(
     ensures { λ _. let s = buffers (now (table .entry)) (now (vertices .entry)) (now (triangles .entry)) in
         ⌜ now (word .exit) ≡ wordAfter (fileWordOf s place) (now (word .entry)) ⌝ }
 {
-    put_word(
-        shared_set::file_word(table, vertices, triangles, place),
-        word,
-    )
+    put_word(set_file::file_word(table, vertices, triangles, place), word)
 }
 
 // Clears the set and adds the bodies of a whole list of records. The number that each addition got goes to `answers`, as far as it

@@ -9,8 +9,8 @@ use borrow.Rule.Slice.PartAt.{part-to-end}
 use denote.Ref.{now}
 use lib.ListN.{length, drop, length-drop}
 use Rattle.laws.specs.Overwrite.{length-overwrite}
-use Rattle.shared_set.specs.Additions.{Lengths, lengths}
-use Rattle.shared_set.specs.Set.{Buffers, buffers, lengthsOf}
+use Rattle.set_table.specs.Room.{Lengths, lengths}
+use Rattle.set_table.specs.Buffers.{Buffers, buffers, lengthsOf}
 use Rattle.ledger.specs.Calls.{additions}
 use Rattle.records.specs.Records.{beginsWithRecord, recordWords, firstAddition}
 use Rattle.records.specs.Built.{repliesIn, numbersOf}

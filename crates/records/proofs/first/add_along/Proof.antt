@@ -8,7 +8,8 @@ use denote.Ref.{now}
 use lib.Ieee.{Float, binary32, ofBits}
 use lib.ListN.{length, take, length-map}
 use Rattle.laws.specs.Lent.{part-written}
-use Rattle.shared_set.specs.Set.{Buffers, buffers, added}
+use Rattle.set_table.specs.Buffers.{Buffers, buffers}
+use Rattle.shared_set.specs.Set.{added}
 use Rattle.records.proofs.first.add_along.Statement.{statement}
 use Rattle.records.proofs.first.add_along.Tie as tie
 

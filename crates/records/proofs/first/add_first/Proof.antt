@@ -12,7 +12,8 @@ use lib.ListN.{length, take, drop}
 use Rattle.descriptions.specs.declared.description.Description.{Description}
 use Rattle.descriptions.specs.declared.kind.Described.{Described}
 use Rattle.descriptions.specs.declared.kind.Described.the-variants.{Known}
-use Rattle.shared_set.specs.Set.{Buffers, After, buffers, added}
+use Rattle.set_table.specs.Buffers.{Buffers, buffers}
+use Rattle.shared_set.specs.Set.{After, added}
 use Rattle.ledger.specs.Ledger.{Addition}
 use Rattle.ledger.specs.Calls.{Called, answered, additions}
 use Rattle.records.specs.Records.{beginsWithRecord, verticesNamed, curveIn, additionOf, firstAddition}

@@ -1,7 +1,7 @@
 -- A damaged table is refused first; what another says is within its limits, and the answer is left to the tests behind 1. Assumes nothing.
 use mathlib.Core.Path.{_≡_, sym, ap, _∙_, subst}
 use mathlib.Core.List.{List, [], _∷_}
-use Prim.Native.Nat.{_^_, _≤_}
+use Prim.Native.Nat.{_≤_}
 use borrow.Author.Needs.{needs}
 use denote.Ref.{now}
 use lib.ListN.{length}
@@ -10,11 +10,12 @@ use Rattle.descriptions.specs.Refusals.{test}
 use Rattle.descriptions.proofs.FirstOf.{accepted-by, passed-by, refused-by}
 use Rattle.shared_set.specs.Bodies.{Body, bodyAlone}
 use Rattle.shared_set.specs.Additions.{additionTests}
-use Rattle.shared_set.specs.Table.{totalsIn, undamaged, readingOf}
-use Rattle.shared_set.specs.Set.{Buffers, buffers, lengthsOf, settledAs, addedBehind, added}
-use Rattle.shared_set.specs.declared.answers.Why.the-variants as why
-use Rattle.shared_set.specs.declared.totals.Totals.{Totals}
-use Rattle.shared_set.proofs.Tables.{reads}
+use Rattle.set_table.specs.Table.{totalsIn, undamaged, readingOf}
+use Rattle.set_table.specs.Buffers.{Buffers, buffers, lengthsOf}
+use Rattle.shared_set.specs.Set.{settledAs, addedBehind, added}
+use Rattle.set_table.specs.declared.answers.Why.the-variants as why
+use Rattle.set_table.specs.declared.totals.Totals.{Totals}
+use Rattle.set_table.proofs.Tables.{reads}
 use Rattle.shared_set.proofs.Additions.{untouched}
 use Rattle.shared_set.proofs.addition.add.Statement.{statement}
 use Rattle.shared_set.proofs.addition.add.Tie as tie
@@ -69,8 +70,7 @@ add-behind-requires : tie.Need-add-behind-requires
 add-behind-requires c κs = let t = c .before .before .before .before in
     let s = held (given t) in
     let told = reads (s .table) (length (s .vertices)) (length (s .triangles)) (sound t) in
-    subst (λ (x : Totals). (x .bodies ≤ 64) × ((x .vertices ≤ 2 ^ 28) × (x .triangles ≤ 2 ^ 28))) (sym (told .0))
-    (told .1 .few, (told .1 .vertices, told .1 .triangles))
+    subst (λ (x : Totals). x .bodies ≤ 64) (sym (told .0)) (told .1 .few)
 
 same-length : tie.Need-same-length
 same-length c = search needs

@@ -12,9 +12,11 @@ use Rattle.descriptions.specs.Descriptions.{topologyOf}
 use Rattle.descriptions.specs.Refusals.{checkedTests}
 use Rattle.descriptions.proofs.FirstOf.{accepted-by, refused-by}
 use Rattle.shared_set.specs.Bodies.{Body, bodyAlone}
-use Rattle.shared_set.specs.Additions.{roomTests, placeTests}
-use Rattle.shared_set.specs.Set.{Buffers, buffers, lengthsOf, settledAs, placedOf, addedBehind}
-use Rattle.shared_set.specs.declared.answers.Why.the-variants as why
+use Rattle.set_table.specs.Room.{roomTests}
+use Rattle.shared_set.specs.Additions.{placeTests}
+use Rattle.set_table.specs.Buffers.{Buffers, buffers, lengthsOf}
+use Rattle.shared_set.specs.Set.{settledAs, placedOf, addedBehind}
+use Rattle.set_table.specs.declared.answers.Why.the-variants as why
 use Rattle.shared_set.proofs.Additions.{answerOf, untouched, Checked, checked, refused-room, enough-room}
 use Rattle.shared_set.proofs.addition.add_behind.Statement.{statement}
 use Rattle.shared_set.proofs.addition.add_behind.Tie as tie
@@ -83,7 +85,7 @@ place-requires : tie.Need-place-requires
 place-requires c κs = let e = c .before .before .before in
     let b = asked (e .before .before) in
     let h = accepts b in
-    (h .whole, (h .shape, (h .same, (accepted-by (tests b) tt (enough e) .1, given b .pre .0))))
+    (h .whole, (h .shape, (h .same, (accepted-by (tests b) tt (enough e) .1, given b .pre))))
 
 returns : tie.Need-returns
 returns c = let y = c .before in

@@ -4,7 +4,7 @@ use native.Mathlib.Omega.{arith}
 use borrow.Author.Needs.{needs}
 use denote.Ref.{now}
 use lib.ListN.{length}
-use Rattle.shared_set.specs.Set.{buffers}
+use Rattle.set_table.specs.Buffers.{buffers}
 use Rattle.sweep.specs.File.{fileWords}
 use Rattle.sweep.proofs.Filled.{word-told, end-told, Filled, none-filled, one-filled, no-word-left, no-room-left}
 use Rattle.sweep.proofs.output.fill_file.Statement.{statement}

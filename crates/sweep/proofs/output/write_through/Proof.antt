@@ -3,7 +3,7 @@ use native.Mathlib.Omega.{arith}
 use borrow.Author.Needs.{needs}
 use denote.Ref.{now}
 use lib.ListN.{length-take}
-use Rattle.shared_set.specs.Set.{buffers}
+use Rattle.set_table.specs.Buffers.{buffers}
 use Rattle.sweep.proofs.Whole.{Sized, all-bytes}
 use Rattle.sweep.proofs.output.write_through.Statement.{statement}
 use Rattle.sweep.proofs.output.write_through.Tie as tie

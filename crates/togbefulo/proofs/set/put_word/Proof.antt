@@ -4,7 +4,7 @@ use borrow.Author.Needs.{needs}
 use denote.Ref.{now}
 use Rattle.laws.specs.Overwrite.{one-store}
 use Rattle.descriptions.specs.Answers.{numberIn}
-use Rattle.shared_set.specs.Answers.{wordAnswer}
+use Rattle.set_file.specs.Answers.{wordAnswer}
 use Rattle.togbefulo.proofs.set.put_word.Statement.{statement}
 use Rattle.togbefulo.proofs.set.put_word.Tie as tie
 

@@ -1,0 +1,53 @@
+-- The file of a set, by its words (document 01, 'The shared set'). Definitions only.
+use mathlib.Core.List.{List, [], _∷_, _++_, map}
+use Prim.Native.Nat.{ℕ, _+_, _*_}
+use lib.Dec.{leb}
+use lib.Ieee.{Float, binary32, toBits}
+use lib.ListN.{length, getD, take, drop}
+use Rattle.descriptions.specs.Answers.{Answer, Test, firstOf}
+use Rattle.descriptions.specs.Refusals.{test}
+use Rattle.set_table.specs.Room.{entryWords}
+use Rattle.set_table.specs.Table.{totalsIn, undamaged}
+use Rattle.set_table.specs.Buffers.{Buffers}
+use Rattle.set_table.specs.declared.totals.Totals.{Totals}
+
+abbrev pub edition : ℕ
+edition = 1
+
+-- "The file is little-endian 32-bit words: 1, B, total vertices, total triangles"
+abbrev pub fileHead : Totals → List ℕ
+fileHead t = edition ∷ t .bodies ∷ t .vertices ∷ t .triangles ∷ []
+
+-- "the entries, all vertex bits, all triangles"; the bits of a NaN, which a lent buffer may hold, are those of the toolchain's IEEE model
+abbrev pub fileBehind : List ℕ → List Float → List ℕ → List ℕ
+fileBehind entries vertices triangles = entries ++ (map (toBits binary32) vertices ++ triangles)
+
+abbrev pub fileOf : Totals → List ℕ → List Float → List ℕ → List ℕ
+fileOf t entries vertices triangles = fileHead t ++ fileBehind entries vertices triangles
+
+-- what the buffers hold of a set of these totals
+abbrev pub entriesHeld : Totals → Buffers → List ℕ
+entriesHeld t s = take (entryWords * t .bodies) (drop 1 (s .table))
+
+abbrev pub verticesHeld : Totals → Buffers → List Float
+verticesHeld t s = take (3 * t .vertices) (s .vertices)
+
+abbrev pub trianglesHeld : Totals → Buffers → List ℕ
+trianglesHeld t s = take (3 * t .triangles) (s .triangles)
+
+-- the file of the set in the buffers
+abbrev pub fileIn : Totals → Buffers → List ℕ
+fileIn t s = fileOf t (entriesHeld t s) (verticesHeld t s) (trianglesHeld t s)
+
+-- 5: not "file word at or past the end"
+abbrev pub endTests : List ℕ → ℕ → List Test
+endTests file place = test 5 (leb (place + 1) (length file)) ∷ []
+
+abbrev pub wordIn : List ℕ → ℕ → Answer ℕ
+wordIn file place = firstOf (endTests file place) (getD file place 0)
+
+-- "File word: 1, 5."
+abbrev pub fileWordOf : Buffers → ℕ → Answer ℕ
+fileWordOf s place =
+    let file = fileIn (totalsIn (s .table)) s in
+    firstOf (test 1 (undamaged (s .table) (length (s .vertices)) (length (s .triangles))) ∷ endTests file place) (getD file place 0)

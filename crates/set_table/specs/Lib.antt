@@ -1,0 +1,4 @@
+pub mod Room
+pub mod Buffers
+pub mod Answers
+pub mod Table

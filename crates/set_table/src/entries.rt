@@ -1,0 +1,38 @@
+ghost use mathlib.Core.Path.{_≡_};
+ghost use Prim.Native.Nat.{_+_, _≤_, _<_};
+ghost use lib.ListN.{length};
+ghost use Rattle.set_table.specs.Room.{mostBodies, tableWords};
+ghost use Rattle.set_table.specs.Table.{entryIn};
+
+// How many words an entry has.
+pub const ENTRY_WORDS: usize = 6;
+
+// The most bodies that a set may have.
+pub(crate) const MOST_BODIES: u32 = 64;
+
+// A body's entry in the table: its kind and n, its first vertex and how many it has, its first triangle and how many it has.
+pub struct Entry {
+    pub kind: u32,
+    pub divisions: u32,
+    pub vertex: u32,
+    pub vertices: u32,
+    pub triangle: u32,
+    pub triangles: u32,
+}
+
+// Entry j of a table that has it.
+pub(crate) fn read_entry(table: &[u32], j: u32) -> Entry
+    requires { ⌜ j < mostBodies ⌝ }
+    requires { ⌜ tableWords (j + 1) ≤ length (now table) ⌝ }
+    ensures { λ r. ⌜ r ≡ entryIn (now (table .entry)) j ⌝ }
+{
+    let at = 1 + ENTRY_WORDS * j as usize;
+    Entry {
+        kind: table[at],
+        divisions: table[at + 1],
+        vertex: table[at + 2],
+        vertices: table[at + 3],
+        triangle: table[at + 4],
+        triangles: table[at + 5],
+    }
+}

@@ -1,0 +1,64 @@
+ghost use mathlib.Core.Path.{_≡_};
+ghost use Rattle.set_table.specs.Answers.{readingAnswer};
+ghost use Rattle.set_table.specs.Table.{entrySound, headSound, readingOf};
+use crate::entries::ENTRY_WORDS;
+use crate::entries::Entry;
+use crate::entries::MOST_BODIES;
+use crate::entries::read_entry;
+use crate::room::is_total_permitted;
+use crate::totals::Reading;
+use crate::totals::Totals;
+
+// The last kind's number.
+const LAST_KIND: u32 = 5;
+
+// Whether an entry can stand behind bodies of so many vertices and triangles.
+fn is_entry_sound(entry: Entry, vertices: usize, triangles: usize) -> bool
+    ensures { λ r. ⌜ r ≡ entrySound entry vertices triangles ⌝ }
+{
+    1 <= entry.kind
+        && entry.kind <= LAST_KIND
+        && entry.vertex as usize == vertices
+        && entry.triangle as usize == triangles
+}
+
+// Whether the table has word 0 and as many entries as it says.
+fn is_head_sound(table: &[u32]) -> bool
+    ensures { λ r. ⌜ r ≡ headSound (now (table .entry)) ⌝ }
+{
+    if table.len() == 0 {
+        return false;
+    }
+    let bodies = table[0];
+    bodies <= MOST_BODIES && 1 + ENTRY_WORDS * bodies as usize <= table.len()
+}
+
+// What the table says, or that it is damaged; the other two buffers have so many elements. 64 counts of 32 bits do not wrap a usize.
+pub fn read(table: &[u32], vertices: usize, triangles: usize) -> Reading
+    ensures { λ r. ⌜ readingAnswer r ≡ readingOf (now (table .entry)) vertices triangles ⌝ }
+{
+    if !is_head_sound(table) {
+        return Reading::Damaged;
+    }
+    let bodies = table[0];
+    let mut v: usize = 0;
+    let mut t: usize = 0;
+    let mut j: u32 = 0;
+    while j < bodies {
+        let e = read_entry(table, j);
+        if !is_entry_sound(e, v, t) {
+            return Reading::Damaged;
+        }
+        v += e.vertices as usize;
+        t += e.triangles as usize;
+        j += 1;
+    }
+    if is_total_permitted(v, vertices) && is_total_permitted(t, triangles) {
+        return Reading::Sound(Totals {
+            bodies,
+            vertices: v,
+            triangles: t,
+        });
+    }
+    Reading::Damaged
+}
