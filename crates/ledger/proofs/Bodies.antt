@@ -20,8 +20,8 @@ use Rattle.descriptions.specs.declared.description.Description.the-variants.{Ca
 use Rattle.descriptions.proofs.Shapes.{shape-permitted, shape-bounds, checked-shape}
 use Rattle.bodies.specs.Bodies.{verticesOf}
 use Rattle.bodies.proofs.Lengths.{length-vertices}
-use Rattle.shared_set.specs.Bodies.{Body, bodyAlone}
 use Rattle.set_table.specs.Table.{lastKind}
+use Rattle.shared_set.specs.Bodies.{Body, bodyAlone}
 use Rattle.shared_set.proofs.Counts.{vertices-counted}
 use Rattle.shared_set.proofs.KindNumbers.{kind-between}
 use Rattle.ledger.specs.Demand3.{Sound}

@@ -12,8 +12,8 @@ use Rattle.descriptions.specs.Answers.{refused}
 use Rattle.set_table.specs.Room.{entryWords}
 use Rattle.set_table.specs.Table.{totalsIn}
 use Rattle.set_table.specs.Buffers.{Buffers}
-use Rattle.set_file.specs.File.{fileOf, entriesHeld, verticesHeld, trianglesHeld, fileIn, wordIn, fileWordOf}
 use Rattle.set_table.specs.declared.totals.Totals.{Totals}
+use Rattle.set_file.specs.File.{fileOf, entriesHeld, verticesHeld, trianglesHeld, fileIn, wordIn, fileWordOf}
 use Rattle.ledger.specs.Ledger.{Ledger, bodyCount, vertexSum, triangleSum, totalsOf, entriesOf, setVertices, setTriangles}
 use Rattle.ledger.specs.Calls.{Called}
 use Rattle.ledger.specs.Demand3.{ledgerOf, stainedVertices}

@@ -14,12 +14,12 @@ use Rattle.surface.specs.Triangles.{flatten, shift}
 use Rattle.descriptions.specs.Answers.{Answer, refused, accepted, firstOf}
 use Rattle.descriptions.specs.Refusals.{checkedTests}
 use Rattle.descriptions.proofs.FirstOf.{accepted-by}
-use Rattle.shared_set.specs.Bodies.{Body, vertexCountIn, triangleCountIn}
 use Rattle.set_table.specs.Room.{Lengths, lengths, tableWords, roomTests}
-use Rattle.shared_set.specs.Additions.{finiteTests, placeTests, additionTests}
 use Rattle.set_table.specs.Buffers.{Buffers, buffers, lengthsOf}
-use Rattle.shared_set.specs.Set.{settled, settledAs, added}
 use Rattle.set_table.proofs.Fitting.{fitting}
+use Rattle.shared_set.specs.Bodies.{Body, vertexCountIn, triangleCountIn}
+use Rattle.shared_set.specs.Additions.{finiteTests, placeTests, additionTests}
+use Rattle.shared_set.specs.Set.{settled, settledAs, added}
 use Rattle.ledger.specs.Ledger.{Ledger, then, bodyCount, vertexSum, totalsOf, Addition, aloneOf, replyTo, entered, entryBehind, entriesOf, setTable, setVertices, setTriangles, stainedBy}
 use Rattle.ledger.specs.Calls.{addition}
 use Rattle.ledger.specs.Demand3.{EachSound}

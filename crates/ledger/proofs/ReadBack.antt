@@ -10,12 +10,12 @@ use lib.ListN.{length, getD, length-append}
 use lib.Seq.{getD-append-add}
 use Rattle.laws.specs.Overwrite.{overwrite, length-overwrite, getD-within}
 use Rattle.laws.specs.Every.{every}
-use Rattle.shared_set.specs.Bodies.{Body}
 use Rattle.set_table.specs.Room.{mostBodies, entryWords, tableWords, Lengths, lengths}
 use Rattle.set_table.specs.Table.{entryIn, bodiesIn, verticesBefore, trianglesBefore, entrySound, entryInSound, undamaged, totalsIn}
-use Rattle.shared_set.specs.Set.{entryOf}
 use Rattle.set_table.specs.declared.totals.Totals.{Totals}
 use Rattle.set_table.proofs.Tables.{reads-undamaged}
+use Rattle.shared_set.specs.Bodies.{Body}
+use Rattle.shared_set.specs.Set.{entryOf}
 use Rattle.ledger.specs.Ledger.{Ledger, empty, then, bodyCount, vertexSum, triangleSum, totalsOf, entryBehind, entriesOf, setTable}
 use Rattle.ledger.specs.Demand3.{EachSound}
 use Rattle.ledger.proofs.Bodies.{kind-known}

@@ -15,8 +15,8 @@ use Rattle.descriptions.specs.Descriptions.{topologyOf}
 use Rattle.descriptions.specs.Refusals.{checkedTests}
 use Rattle.descriptions.specs.declared.description.Description.{Description}
 use Rattle.descriptions.specs.declared.description.Description.the-variants.{Capsule}
-use Rattle.shared_set.specs.Bodies.{Body, vertexCountIn, bodyAlone}
 use Rattle.set_table.specs.Buffers.{Buffers, lengthsOf}
+use Rattle.shared_set.specs.Bodies.{Body, vertexCountIn, bodyAlone}
 use Rattle.shared_set.specs.Set.{clearAnswer}
 use Rattle.ledger.specs.Ledger.{Ledger, empty, then, Addition, vertexSum, repliesTo, final, setTable, setVertices, setTriangles, stained}
 use Rattle.ledger.specs.Calls.{clearAndAdd}

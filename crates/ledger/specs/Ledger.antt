@@ -11,10 +11,10 @@ use Rattle.float32.specs.Zeros.{zeros}
 use Rattle.surface.specs.Triangles.{flatten, shift}
 use Rattle.descriptions.specs.Answers.{Answer, refused, accepted, firstOf}
 use Rattle.descriptions.specs.declared.description.Description.{Description}
-use Rattle.shared_set.specs.Bodies.{Body, vertexCountIn, triangleCountIn, bodyAlone}
 use Rattle.set_table.specs.Room.{Lengths}
-use Rattle.shared_set.specs.Additions.{additionTests}
 use Rattle.set_table.specs.declared.totals.Totals.{Totals}
+use Rattle.shared_set.specs.Bodies.{Body, vertexCountIn, triangleCountIn, bodyAlone}
+use Rattle.shared_set.specs.Additions.{additionTests}
 
 -- "a list of bodies, empty after the clear", which grows at its end
 pub data Ledger : Type 0 where

@@ -16,8 +16,8 @@ use Rattle.descriptions.proofs.FirstOf.{accepted-by, passed-by, refused-by}
 use Rattle.set_table.specs.Room.{tableWords, entryWords}
 use Rattle.set_table.specs.Table.{totalsIn, undamaged, readingOf}
 use Rattle.set_table.specs.Buffers.{Buffers}
-use Rattle.set_file.specs.File.{fileHead, fileBehind, entriesHeld, verticesHeld, trianglesHeld, fileIn, endTests, wordIn, fileWordOf}
 use Rattle.set_table.specs.declared.totals.Totals.{Totals}
+use Rattle.set_file.specs.File.{fileHead, fileBehind, entriesHeld, verticesHeld, trianglesHeld, fileIn, endTests, wordIn, fileWordOf}
 
 -- a word of a list, and none past its end
 word-here : (xs : List ℕ) (place : ℕ) → place < length xs → accepted (getD xs place 0) ≡ wordIn xs place

@@ -12,8 +12,8 @@ use Rattle.descriptions.specs.declared.description.Description.{Description}
 use Rattle.descriptions.specs.declared.description.Description.the-variants.{Ribbon, Tube, Capsule, Torus, ClosedCylinder}
 use Rattle.descriptions.specs.declared.kind.Described.{Described}
 use Rattle.descriptions.specs.declared.kind.Described.the-variants.{Known, Unknown}
-use Rattle.shared_set.specs.Bodies.{kindNumber}
 use Rattle.set_table.specs.Table.{lastKind}
+use Rattle.shared_set.specs.Bodies.{kindNumber}
 
 -- x, whose number is k, where the kind is k, and one of the others where it is not
 told-by : (kind k : ℕ) (b : Bool) (x : Description) (others : Described) {d : Description} → eqb kind k ≡ b → kindNumber x ≡ k

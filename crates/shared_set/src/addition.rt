@@ -1,8 +1,8 @@
 ghost use mathlib.Core.Path.{_≡_};
 ghost use Prim.Native.Nat.{_≤_};
 ghost use Rattle.set_table.specs.Room.{mostBodies};
-ghost use Rattle.shared_set.specs.Answers.{outcomeAnswer};
 ghost use Rattle.set_table.specs.Buffers.{buffers};
+ghost use Rattle.shared_set.specs.Answers.{outcomeAnswer};
 ghost use Rattle.shared_set.specs.Set.{after, addedBehind, added};
 use crate::answers::Outcome;
 use crate::place::place;

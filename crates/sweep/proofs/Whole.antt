@@ -14,8 +14,8 @@ use Rattle.laws.specs.Lent.{part-written}
 use Rattle.set_table.specs.Room.{entryWords}
 use Rattle.set_table.specs.Table.{totalsIn, undamaged}
 use Rattle.set_table.specs.Buffers.{Buffers}
-use Rattle.set_file.specs.File.{fileHead, fileBehind, entriesHeld, verticesHeld, trianglesHeld, fileIn}
 use Rattle.set_table.specs.declared.totals.Totals.{Totals}
+use Rattle.set_file.specs.File.{fileHead, fileBehind, entriesHeld, verticesHeld, trianglesHeld, fileIn}
 use Rattle.little_endian.specs.Words.{bytesOf, bytesIn}
 use Rattle.sweep.specs.File.{fileWords}
 

@@ -3,9 +3,9 @@
 ghost use mathlib.Core.Path.{_≡_};
 ghost use Rattle.descriptions.specs.Answers.{numberIn};
 ghost use Rattle.descriptions.specs.KindNumbers.{describedOf};
-ghost use Rattle.set_file.specs.Answers.{wordAnswer};
 ghost use Rattle.set_table.specs.Buffers.{buffers};
 ghost use Rattle.shared_set.specs.Set.{clearAnswer, cleared};
+ghost use Rattle.set_file.specs.Answers.{wordAnswer};
 ghost use Rattle.set_file.specs.File.{fileWordOf};
 ghost use Rattle.records.specs.Built.{builtOf};
 ghost use Rattle.togbefulo.specs.SetFace.{addedAs, wordAfter};

@@ -12,8 +12,8 @@ use denote.Ref.{now}
 use lib.ListN.{length}
 use Rattle.laws.specs.Overwrite.{overwrite}
 use Rattle.descriptions.specs.Answers.{Answer, refused, accepted}
-use Rattle.shared_set.specs.Answers.{outcomeAnswer}
 use Rattle.set_table.specs.Buffers.{Buffers, buffers, lengthsOf}
+use Rattle.shared_set.specs.Answers.{outcomeAnswer}
 use Rattle.shared_set.specs.Set.{clearAnswer, cleared}
 use Rattle.shared_set.specs.declared.answers.Outcome.{Outcome}
 use Rattle.shared_set.specs.declared.answers.Outcome.the-variants as outcome

@@ -8,14 +8,14 @@ use lib.ListN.{length}
 use Rattle.descriptions.specs.Answers.{Test, accepted}
 use Rattle.descriptions.specs.Refusals.{test}
 use Rattle.descriptions.proofs.FirstOf.{accepted-by, passed-by, refused-by}
-use Rattle.shared_set.specs.Bodies.{Body, bodyAlone}
-use Rattle.shared_set.specs.Additions.{additionTests}
 use Rattle.set_table.specs.Table.{totalsIn, undamaged, readingOf}
 use Rattle.set_table.specs.Buffers.{Buffers, buffers, lengthsOf}
-use Rattle.shared_set.specs.Set.{settledAs, addedBehind, added}
 use Rattle.set_table.specs.declared.answers.Why.the-variants as why
 use Rattle.set_table.specs.declared.totals.Totals.{Totals}
 use Rattle.set_table.proofs.Tables.{reads}
+use Rattle.shared_set.specs.Bodies.{Body, bodyAlone}
+use Rattle.shared_set.specs.Additions.{additionTests}
+use Rattle.shared_set.specs.Set.{settledAs, addedBehind, added}
 use Rattle.shared_set.proofs.Additions.{untouched}
 use Rattle.shared_set.proofs.addition.add.Statement.{statement}
 use Rattle.shared_set.proofs.addition.add.Tie as tie

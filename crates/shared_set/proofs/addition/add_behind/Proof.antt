@@ -11,12 +11,12 @@ use Rattle.descriptions.specs.Answers.{Test, accepted}
 use Rattle.descriptions.specs.Descriptions.{topologyOf}
 use Rattle.descriptions.specs.Refusals.{checkedTests}
 use Rattle.descriptions.proofs.FirstOf.{accepted-by, refused-by}
-use Rattle.shared_set.specs.Bodies.{Body, bodyAlone}
 use Rattle.set_table.specs.Room.{roomTests}
-use Rattle.shared_set.specs.Additions.{placeTests}
 use Rattle.set_table.specs.Buffers.{Buffers, buffers, lengthsOf}
-use Rattle.shared_set.specs.Set.{settledAs, placedOf, addedBehind}
 use Rattle.set_table.specs.declared.answers.Why.the-variants as why
+use Rattle.shared_set.specs.Bodies.{Body, bodyAlone}
+use Rattle.shared_set.specs.Additions.{placeTests}
+use Rattle.shared_set.specs.Set.{settledAs, placedOf, addedBehind}
 use Rattle.shared_set.proofs.Additions.{answerOf, untouched, Checked, checked, refused-room, enough-room}
 use Rattle.shared_set.proofs.addition.add_behind.Statement.{statement}
 use Rattle.shared_set.proofs.addition.add_behind.Tie as tie

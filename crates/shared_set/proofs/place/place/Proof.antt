@@ -20,13 +20,13 @@ use Rattle.kinds.specs.declared.topology.Topology.{Topology}
 use Rattle.descriptions.specs.Answers.{accepted, refused}
 use Rattle.descriptions.specs.Descriptions.{topologyOf}
 use Rattle.descriptions.proofs.Shapes.{shape-permitted}
+use Rattle.set_table.specs.Buffers.{Buffers, buffers, lengthsOf}
+use Rattle.set_table.specs.declared.entries.Entry.{Entry}
+use Rattle.set_table.proofs.Fitting.{Fitting, fitting}
 use Rattle.shared_set.specs.Bodies.{Body, bodyAlone}
 use Rattle.shared_set.specs.Answers.{notFinite}
-use Rattle.set_table.specs.Buffers.{Buffers, buffers, lengthsOf}
 use Rattle.shared_set.specs.Set.{After, after, entryOf, withEntry, settledAs}
-use Rattle.set_table.specs.declared.entries.Entry.{Entry}
 use Rattle.shared_set.proofs.Counts.{vertices-counted, triangles-counted}
-use Rattle.set_table.proofs.Fitting.{Fitting, fitting}
 use Rattle.shared_set.proofs.place.place.Statement.{statement}
 use Rattle.shared_set.proofs.place.place.Tie as tie
 

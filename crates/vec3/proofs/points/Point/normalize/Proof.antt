@@ -1,6 +1,7 @@
 -- `vec3::Point::normalize` meets its contract: each call gives what the definition names. Assumes nothing.
+use mathlib.Core.Path.{ap, _∙_}
 use borrow.Author.Needs.{needs}
-use Rattle.vec3.specs.Points.{normalised}
+use Rattle.vec3.specs.Points.{quotientOf, normalised}
 use Rattle.vec3.proofs.points.Point.normalize.Statement.{statement}
 use Rattle.vec3.proofs.points.Point.normalize.Tie as tie
 
@@ -12,7 +13,7 @@ divide-requires c κs = search needs
 
 returns : tie.Need-returns
 unfolding normalised
-returns c = cc
+returns c = c .divide .ensures ∙ ap (quotientOf (c .before .before .args .self)) (c .before .norm .ensures)
 
 pub normalize-spec : {M : Type 1} → statement M
 normalize-spec = tie.close (tie.spec norm-requires divide-requires returns)
