@@ -12,11 +12,10 @@ use Rattle.curve.specs.Segments.{vertexOf, segmentDirection}
 use Rattle.curve.specs.Framex.{carriedOf, carriedTo}
 use Rattle.curve.specs.declared.framex.Carried.{Carried}
 use Rattle.curve.proofs.Carry.{carried-next}
-use Rattle.bodies.specs.Axes.{axesAt}
+use Rattle.rings.specs.Axes.{axesAt, betweenOf}
+use Rattle.rings.specs.declared.axes.Axes.{Axes}
 use Rattle.bodies.specs.Polyline3.{vtx2framex, framez, vtx2framey, axesOf}
 use Rattle.bodies.specs.Polyloop3 as polyloop3
-use Rattle.bodies.specs.Swept.{betweenOf}
-use Rattle.bodies.specs.declared.axes.Axes.{Axes}
 
 -- the axes at vertex g, on a curve of either kind
 abbrev pub axesAlong : Chain → ℕ → List Float → ℕ → Axes

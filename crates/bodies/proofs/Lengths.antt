@@ -21,15 +21,15 @@ use Rattle.descriptions.specs.Refusals.{ShapePermitted}
 use Rattle.descriptions.specs.declared.description.Description.{Description}
 use Rattle.descriptions.specs.declared.description.Description.the-variants.{Ribbon, Tube, Capsule, Torus, ClosedCylinder}
 use Rattle.descriptions.proofs.Shapes.{shape-bounds}
-use Rattle.bodies.specs.Vertices.{coordinates, ringOf, tubeVertex, torusVertex}
+use Rattle.rings.specs.Vertices.{coordinates, ringOf, tubeVertex, torusVertex, capVertex, levelVertex}
+use Rattle.rings.specs.declared.axes.Axes.{Axes}
 use Rattle.bodies.specs.Polyline3.{vtx2framex, axesOf, tubeVertices, ribbonPair, ribbonVertices}
 use Rattle.bodies.specs.Polyloop3 as polyloop3
 use Rattle.bodies.specs.Swept.{sweptRing, innerRings}
-use Rattle.bodies.specs.Capsule.{capVertex, capRings, capsuleVertices}
-use Rattle.bodies.specs.ClosedCylinder.{lowOf, levelVertex, cylinderVertices}
+use Rattle.bodies.specs.Capsule.{capRings, capsuleVertices}
+use Rattle.bodies.specs.ClosedCylinder.{lowOf, cylinderVertices}
 use Rattle.bodies.specs.Bodies.{verticesOf, drawable}
 use Rattle.bodies.proofs.Drawable.{drawn-shape, drawn-room}
-use Rattle.bodies.specs.declared.axes.Axes.{Axes}
 
 pub length-ring : (vertex : Direction → Point) (n : ℕ) → length (ringOf vertex n) ≡ n * 3
 length-ring vertex n = length-blocks 3 n (λ i. coordinates (vertex (turnOf i n))) (λ i h. refl)

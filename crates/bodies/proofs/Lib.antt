@@ -1,5 +1,4 @@
 pub mod Lengths
-pub mod RingVertices
 pub mod Table
 pub mod Along
 pub mod SideRings

@@ -11,26 +11,26 @@ use Rattle.vec3.specs.declared.points.Point.{Point}
 use Rattle.curve.specs.Segments.{vertexOf}
 use Rattle.curve.specs.Framex.{carriedOf}
 use Rattle.curve.specs.declared.framex.Carried.{Carried}
-use Rattle.bodies.specs.Axes.{axesAt}
-use Rattle.bodies.specs.Vertices.{ringOf, tubeVertex, torusVertex}
-use Rattle.bodies.specs.Rings.{ringAround, eyFirst, sumFirst, ringVertex}
-use Rattle.bodies.specs.Swept.{sideOf, sweptRing, innerRings}
-use Rattle.bodies.specs.declared.axes.Axes.{Axes}
-use Rattle.bodies.specs.declared.rings.Ring.{Ring}
+use Rattle.rings.specs.Axes.{axesAt}
+use Rattle.rings.specs.Vertices.{ringOf, sideVertex}
+use Rattle.rings.specs.Rings.{ringVertex, sideOf}
+use Rattle.rings.specs.declared.axes.Axes.{Axes}
+use Rattle.rings.specs.declared.ring.Ring.{Ring}
+use Rattle.rings.proofs.RingVertices.{side-ring}
+use Rattle.bodies.specs.Swept.{sweptRing, innerRings}
 use Rattle.bodies.proofs.Along.{axesAlong, axes-first}
 use Rattle.bodies.proofs.Lengths.{length-swept}
 
-side-ring : (chain : Chain) (m : ℕ) (c : List Float) (r : Float) (n g : ℕ) → let k = sideOf chain (axesAlong chain m c g) r in
-    ringOf (ringVertex (k .order) k) n ≡ sweptRing chain m c r n g
-unfolding ringAround eyFirst sumFirst tubeVertex torusVertex
-side-ring Open m c r n g = refl
-side-ring Closed m c r n g = refl
+side-along : (chain : Chain) (m : ℕ) (c : List Float) (r : Float) (n g : ℕ)
+    → ringOf (sideVertex chain (axesAlong chain m c g) r) n ≡ sweptRing chain m c r n g
+side-along Open m c r n g = refl
+side-along Closed m c r n g = refl
 
 -- as the calls make it
 pub ring-along : (chain : Chain) (m : ℕ) (c : List Float) (r : Float) (n g : ℕ) {k : Ring} {a : Axes}
     → k ≡ sideOf chain a r → a ≡ axesAlong chain m c g → ringOf (ringVertex (k .order) k) n ≡ sweptRing chain m c r n g
 ring-along chain m c r n g is at =
-    ap (λ (k : Ring). ringOf (ringVertex (k .order) k) n) (is ∙ ap (λ (a : Axes). sideOf chain a r) at) ∙ side-ring chain m c r n g
+    side-ring chain _ r n is ∙ ap (λ (a : Axes). ringOf (sideVertex chain a r) n) at ∙ side-along chain m c r n g
 
 -- the first ring, as the calls make it, and behind it those at vertices 1 to m − 1
 pub first-and-inner : (chain : Chain) (m : ℕ) (c : List Float) (r : Float) (n : ℕ) (t₀ : List Float)

@@ -1,21 +1,14 @@
--- The capsule's vertices (document 01, 'Frames and vertices'). Definitions only.
+-- The capsule's vertices (document 01, 'Frames and vertices'), of the caps and poles that crates/rings/specs/Vertices.antt defines.
+-- Definitions only.
 use mathlib.Core.List.{List, _++_}
-use Prim.Native.Nat.{ℕ, _+_, _-_, _*_}
+use Prim.Native.Nat.{ℕ, _+_, _-_}
 use lib.Ieee.{Float}
 use Rattle.laws.specs.Blocks.{blocks}
 use Rattle.surface.specs.declared.caps.End.{End}
 use Rattle.surface.specs.declared.caps.End.the-variants.{Bottom, Top}
-use Rattle.vec3.specs.Turns.{turnOf}
-use Rattle.vec3.specs.declared.points.Point.{Point}
-use Rattle.vec3.specs.declared.turns.Direction.{Direction}
-use Rattle.bodies.specs.Vertices.{coordinates, ringOf, bottomPole, topPole, bottomVertex, topVertex}
+use Rattle.rings.specs.Vertices.{coordinates, ringOf, bottomPole, topPole, capVertex}
+use Rattle.rings.specs.declared.axes.Axes.{Axes}
 use Rattle.bodies.specs.Polyline3.{axesOf, tubeRing}
-use Rattle.bodies.specs.declared.axes.Axes.{Axes}
-
--- "Bottom rings j below L: t = turn(L − 1 − j, 4L)", "Top rings: t = turn(j, 4L)"
-abbrev pub capVertex : End → Axes → Float → ℕ → ℕ → Direction → Point
-capVertex Bottom a r L j = bottomVertex a r (turnOf (L - 1 - j) (4 * L))
-capVertex Top a r L j = topVertex a r (turnOf j (4 * L))
 
 abbrev pub capRings : End → Axes → Float → ℕ → ℕ → List Float
 capRings end a r L n = blocks L (λ j. ringOf (capVertex end a r L j) n)

@@ -1,7 +1,4 @@
-pub mod Axes
-pub mod Vertices
 pub mod Directions
-pub mod Rings
 pub mod Polyline3
 pub mod Polyloop3
 pub mod Capsule

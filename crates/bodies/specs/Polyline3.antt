@@ -12,8 +12,8 @@ use Rattle.vec3.specs.declared.points.Point.{Point}
 use Rattle.vec3.specs.declared.frames.Frame.{Frame}
 use Rattle.curve.specs.Segments.{vertexOf, segmentDirection}
 use Rattle.curve.specs.Framex.{frameOf}
-use Rattle.bodies.specs.Vertices.{coordinates, ringOf, tubeVertex}
-use Rattle.bodies.specs.declared.axes.Axes.{Axes}
+use Rattle.rings.specs.Vertices.{coordinates, ringOf, tubeVertex}
+use Rattle.rings.specs.declared.axes.Axes.{Axes}
 
 -- "frame m a copy of frame m − 1"; the others are those of the segments
 unfoldable pub vtx2framex : ℕ → List Float → ℕ → Frame

@@ -8,9 +8,9 @@ use Rattle.surface.specs.declared.grid.Chain.the-variants.{Closed}
 use Rattle.vec3.specs.declared.frames.Frame.{Frame}
 use Rattle.curve.specs.Segments.{vertexOf, segmentDirection}
 use Rattle.curve.specs.Framex.{frameOf}
-use Rattle.bodies.specs.Axes.{axesAt}
-use Rattle.bodies.specs.Vertices.{ringOf, torusVertex}
-use Rattle.bodies.specs.declared.axes.Axes.{Axes}
+use Rattle.rings.specs.Axes.{axesAt}
+use Rattle.rings.specs.Vertices.{ringOf, torusVertex}
+use Rattle.rings.specs.declared.axes.Axes.{Axes}
 
 -- "Closed: frames 1 to N − 1 transported, the last onto the closing segment."
 unfoldable pub vtx2framex : ℕ → List Float → ℕ → Frame

@@ -6,25 +6,8 @@ use lib.Ieee.{Float}
 use Rattle.laws.specs.Blocks.{blocks}
 use Rattle.surface.specs.declared.grid.Chain.{Chain}
 use Rattle.surface.specs.declared.grid.Chain.the-variants.{Open, Closed}
-use Rattle.vec3.specs.Points.{sumOf, normalised}
-use Rattle.vec3.specs.declared.points.Point.{Point}
 use Rattle.bodies.specs.Polyline3.{tubeRing}
 use Rattle.bodies.specs.Polyloop3.{torusRing}
-use Rattle.bodies.specs.Rings.{ringAround}
-use Rattle.bodies.specs.declared.axes.Axes.{Axes}
-use Rattle.bodies.specs.declared.rings.Ring.{Ring}
-use Rattle.bodies.specs.declared.rings.Order.the-variants.{EyFirst, SumFirst}
-
--- ez between segments along u and w: "inside the normalised sum of the two normalised segments"; of a torus "the segment leaving the
--- vertex", normalised
-abbrev pub betweenOf : Chain → Point → Point → Point
-betweenOf Open u w = normalised (sumOf u w)
-betweenOf Closed u w = w
-
--- the ring round the origin of the axes: ey first for a tube, the sum first for a torus
-abbrev pub sideOf : Chain → Axes → Float → Ring
-sideOf Open a r = ringAround EyFirst a (a .origin) r
-sideOf Closed a r = ringAround SumFirst a (a .origin) r
 
 -- ring g of a tube or a torus along a curve of `count` segments
 abbrev pub sweptRing : Chain → ℕ → List Float → Float → ℕ → ℕ → List Float

@@ -1,36 +1,13 @@
 ghost use mathlib.Core.Path.{_≡_};
-ghost use Prim.Native.Nat.{_+_, _*_, _≤_, _<_};
+ghost use Prim.Native.Nat.{_+_, _*_, _≤_};
 ghost use lib.ListN.{length};
 ghost use Rattle.laws.specs.Overwrite.{overwrite};
 ghost use Rattle.bodies.specs.Directions.{Directions};
-ghost use Rattle.bodies.specs.Rings.{capRing};
 ghost use Rattle.bodies.specs.Capsule.{capRings};
-use crate::axes::Axes;
-use crate::rings::Order;
-use crate::rings::Ring;
-use crate::rings::write_ring;
+use crate::ring_writer::write_ring;
+use rings::Axes;
+use rings::cap_ring;
 use surface::End;
-use vec3::turn;
-
-// Ring j of `longitudes` in a cap round the end of a curve.
-fn cap_ring(end: End, axes: Axes, radius: f32, longitudes: u16, j: u16) -> Ring
-    requires { ⌜ j < longitudes ⌝ }
-    ensures { λ r. ⌜ r ≡ capRing end axes radius longitudes j ⌝ }
-{
-    let quarters = 4 * longitudes as u32;
-    match end {
-        End::Bottom => {
-            let t = turn((longitudes - 1 - j) as u32, quarters);
-            let centre = axes.origin.add(axes.ez.scale(-radius * t.sin));
-            Ring::around(Order::EyFirst, axes, centre, radius * t.cos)
-        }
-        End::Top => {
-            let t = turn(j as u32, quarters);
-            let centre = axes.origin.add(axes.ez.scale(radius * t.sin));
-            Ring::around(Order::ExFirst, axes, centre, radius * t.cos)
-        }
-    }
-}
 
 // The rings of a cap, from place `at` on.
 pub(crate) fn write_cap(

@@ -1,10 +1,9 @@
 // A body alone: from a description and a curve to its vertices.
-mod axes;
 mod caps;
 mod directions;
 mod polyline3;
 mod polyloop3;
-mod rings;
+mod ring_writer;
 mod swept;
 mod trimesh3_primitive;
 mod vertices;

@@ -3,13 +3,13 @@ ghost use Prim.Native.Nat.{_*_, _≤_};
 ghost use lib.ListN.{length};
 ghost use Rattle.laws.specs.Overwrite.{overwrite};
 ghost use Rattle.bodies.specs.Polyloop3.{torusVertices};
-use crate::axes::Axes;
 use crate::directions::TABLE;
 use crate::directions::fill_directions;
-use crate::rings::write_ring;
-use crate::swept::side;
+use crate::ring_writer::write_ring;
 use crate::swept::write_inner;
 use curve::Carried;
+use rings::Axes;
+use rings::side;
 use surface::Chain;
 
 // The vertices of a torus along a closed curve of so many vertices, to the front of `out`.

@@ -4,35 +4,13 @@ ghost use lib.ListN.{length};
 ghost use Rattle.laws.specs.Overwrite.{overwrite};
 ghost use Rattle.curve.specs.Framex.{carriedOf};
 ghost use Rattle.bodies.specs.Directions.{Directions};
-ghost use Rattle.bodies.specs.Swept.{betweenOf, sideOf, innerRings};
-use crate::axes::Axes;
-use crate::rings::Order;
-use crate::rings::Ring;
-use crate::rings::write_ring;
+ghost use Rattle.bodies.specs.Swept.{innerRings};
+use crate::ring_writer::write_ring;
 use curve::Carried;
+use rings::Axes;
+use rings::framez;
+use rings::side;
 use surface::Chain;
-use vec3::Point;
-
-// The axes' ez at a vertex between segments along u and w: `framez` of polyline3; on a torus the segment that leaves the vertex.
-fn framez(chain: Chain, u: Point, w: Point) -> Point
-    ensures { λ r. ⌜ r ≡ betweenOf chain u w ⌝ }
-{
-    match chain {
-        Chain::Open => u.add(w).normalize(),
-        Chain::Closed => w,
-    }
-}
-
-// The ring round a vertex of a tube, or of a torus.
-pub(crate) fn side(chain: Chain, axes: Axes, radius: f32) -> Ring
-    ensures { λ r. ⌜ r ≡ sideOf chain axes radius ⌝ }
-{
-    let centre = axes.origin;
-    match chain {
-        Chain::Open => Ring::around(Order::EyFirst, axes, centre, radius),
-        Chain::Closed => Ring::around(Order::SumFirst, axes, centre, radius),
-    }
-}
 
 // The rings between `count` segments, at vertices 1 to count − 1, from place `at` on; the frame is handed in on the first segment and
 // back on the last.

@@ -3,38 +3,18 @@ ghost use Prim.Native.Nat.{_+_, _*_, _≤_};
 ghost use lib.ListN.{length};
 ghost use Rattle.laws.specs.Overwrite.{overwrite};
 ghost use Rattle.bodies.specs.Directions.{Directions};
-ghost use Rattle.bodies.specs.Rings.{levelOf};
 ghost use Rattle.bodies.specs.ClosedCylinder.{lowOf, cylinderRings, cylinderVertices};
 use crate::directions::TABLE;
 use crate::directions::fill_directions;
-use crate::rings::Order;
-use crate::rings::Ring;
-use crate::rings::put_point;
-use crate::rings::write_ring;
+use crate::ring_writer::put_point;
+use crate::ring_writer::write_ring;
+use rings::level;
 use vec3::Point;
 
 fn low(centred: bool, height: f32) -> f32
     ensures { λ r. ⌜ r ≡ lowOf centred height ⌝ }
 {
     if centred { -height * 0.5 } else { 0.0 }
-}
-
-// A level ring at height y.
-fn level(radius: f32, y: f32) -> Ring
-    ensures { λ r. ⌜ r ≡ levelOf radius y ⌝ }
-{
-    let none = Point {
-        x: 0.0,
-        y: 0.0,
-        z: 0.0,
-    };
-    Ring {
-        order: Order::Level,
-        centre: Point { x: 0.0, y, z: 0.0 },
-        ex: none,
-        ey: none,
-        radius,
-    }
 }
 
 // The rings 0 to `layers`, each one step above the last, from place `at` on.

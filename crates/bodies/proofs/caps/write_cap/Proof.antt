@@ -3,6 +3,7 @@ use mathlib.Core.Path.{_≡_, refl, sym, _∙_}
 use mathlib.Core.List.{List}
 use Prim.Native.Nat.{ℕ, _+_, _*_, _-_, _≤_}
 use native.Mathlib.Omega.{arith}
+use borrow.Author.Needs.{needs}
 use denote.Ref.{now}
 use lib.Ieee.{Float}
 use lib.ListN.{length}
@@ -10,11 +11,10 @@ use Rattle.laws.specs.Overwrite.{overwrite, overwrite-none}
 use Rattle.laws.specs.Blocks.{blocks, one-more, all-written}
 use Rattle.laws.specs.Products.{next-row, row-within}
 use Rattle.surface.specs.declared.caps.End.{End}
-use Rattle.bodies.specs.Vertices.{ringOf}
-use Rattle.bodies.specs.Capsule.{capVertex}
-use Rattle.bodies.specs.declared.axes.Axes.{Axes}
+use Rattle.rings.specs.Vertices.{ringOf, capVertex}
+use Rattle.rings.specs.declared.axes.Axes.{Axes}
+use Rattle.rings.proofs.RingVertices.{cap-ring}
 use Rattle.bodies.proofs.Lengths.{length-ring}
-use Rattle.bodies.proofs.RingVertices.{cap-ring}
 use Rattle.bodies.proofs.caps.write_cap.Statement.{statement}
 use Rattle.bodies.proofs.caps.write_cap.Tie as tie
 
@@ -42,7 +42,7 @@ loop-holds : tie.Need-loop-holds Inv-loop μ-loop
 loop-holds c = (sym (overwrite-none _ _), omega arith, omega arith, refl)
 
 cap-ring-requires : tie.Need-cap-ring-requires Inv-loop μ-loop
-cap-ring-requires c κs = omega arith
+cap-ring-requires c κs = search needs
 
 write-ring-requires : tie.Need-write-ring-requires Inv-loop μ-loop
 write-ring-requires c κs = (omega (arith, room (c .before .before)), c .before .before .before .before .before .before .pre .1)

@@ -5,7 +5,7 @@ use borrow.Author.Needs.{needs}
 use denote.Ref.{now}
 use Rattle.laws.specs.Overwrite.{overwrite, written-behind}
 use Rattle.vec3.specs.Points.{sumOf}
-use Rattle.bodies.specs.Vertices.{coordinates}
+use Rattle.rings.specs.Vertices.{coordinates}
 use Rattle.bodies.proofs.polyline3.put_pair.Statement.{statement}
 use Rattle.bodies.proofs.polyline3.put_pair.Tie as tie
 

@@ -13,11 +13,11 @@ use Rattle.surface.specs.declared.caps.End.{End}
 use Rattle.surface.specs.declared.caps.End.the-variants.{Bottom, Top}
 use Rattle.vec3.specs.Points.{sumOf, differenceOf}
 use Rattle.vec3.specs.declared.points.Point.{Point}
-use Rattle.bodies.specs.Vertices.{coordinates, bottomPole, topPole}
+use Rattle.rings.specs.Vertices.{coordinates, bottomPole, topPole}
+use Rattle.rings.specs.declared.axes.Axes.{Axes}
 use Rattle.bodies.specs.Polyline3.{axesOf}
 use Rattle.bodies.specs.Swept.{innerRings}
 use Rattle.bodies.specs.Capsule.{capRings, capsuleVertices}
-use Rattle.bodies.specs.declared.axes.Axes.{Axes}
 use Rattle.bodies.proofs.Along.{axes-first, axes-last}
 use Rattle.bodies.proofs.Lengths.{length-cap, length-inner}
 use Rattle.bodies.proofs.polyline3.to_trimesh3_capsule.Statement.{statement}

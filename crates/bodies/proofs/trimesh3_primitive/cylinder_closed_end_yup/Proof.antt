@@ -5,8 +5,8 @@ use Prim.Native.Nat.{_+_}
 use denote.Ref.{now}
 use Rattle.laws.specs.Overwrite.{written-behind}
 use Rattle.vec3.specs.Points.{plus}
-use Rattle.bodies.specs.Vertices.{coordinates}
-use Rattle.bodies.specs.ClosedCylinder.{levelVertex, pole, cylinderRings}
+use Rattle.rings.specs.Vertices.{coordinates, levelVertex, pole}
+use Rattle.bodies.specs.ClosedCylinder.{cylinderRings}
 use Rattle.bodies.proofs.Lengths.{length-rings}
 use borrow.Author.Needs.{needs}
 use Rattle.bodies.proofs.trimesh3_primitive.cylinder_closed_end_yup.Statement.{statement}

@@ -11,10 +11,9 @@ use Rattle.laws.specs.Overwrite.{overwrite, overwrite-none}
 use Rattle.laws.specs.Blocks.{blocks, one-more, all-written}
 use Rattle.laws.specs.Products.{next-row, row-within}
 use Rattle.vec3.specs.Turns.{whole}
-use Rattle.bodies.specs.Vertices.{ringOf}
-use Rattle.bodies.specs.ClosedCylinder.{levelVertex}
+use Rattle.rings.specs.Vertices.{ringOf, levelVertex}
+use Rattle.rings.proofs.RingVertices.{level-ring}
 use Rattle.bodies.proofs.Lengths.{length-ring}
-use Rattle.bodies.proofs.RingVertices.{level-ring}
 use Rattle.bodies.proofs.trimesh3_primitive.write_levels.Statement.{statement}
 use Rattle.bodies.proofs.trimesh3_primitive.write_levels.Tie as tie
 

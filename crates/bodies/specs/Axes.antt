@@ -1,9 +1,0 @@
--- The axes at a vertex of a curve (document 01, 'Frames and vertices'). Definitions only.
-use Rattle.vec3.specs.Points.{crossOf}
-use Rattle.vec3.specs.declared.points.Point.{Point}
-use Rattle.vec3.specs.declared.frames.Frame.{Frame}
-use Rattle.bodies.specs.declared.axes.Axes.{Axes}
-
--- "ex is the frame; .. ey = cross(ez, ex)"
-unfoldable pub axesAt : Point → Frame → Point → Axes
-axesAt p frame ez = record { origin = p; ex = frame .ex; ey = crossOf ez (frame .ex); ez = ez }

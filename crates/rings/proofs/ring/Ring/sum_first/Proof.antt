@@ -1,0 +1,29 @@
+-- The terms are added in the order of the definition. Assumes nothing.
+use Rattle.rings.specs.Rings.{sumFirst}
+use borrow.Author.Needs.{needs}
+use Rattle.rings.proofs.ring.Ring.sum_first.Statement.{statement}
+use Rattle.rings.proofs.ring.Ring.sum_first.Tie as tie
+
+scale-requires : tie.Need-scale-requires
+scale-requires c κs = search needs
+
+scale-requires-2 : tie.Need-scale-requires-2
+scale-requires-2 c κs = search needs
+
+add-requires : tie.Need-add-requires
+add-requires c κs = search needs
+
+scale-requires-3 : tie.Need-scale-requires-3
+scale-requires-3 c κs = search needs
+
+add-requires-2 : tie.Need-add-requires-2
+add-requires-2 c κs = search needs
+
+returns : tie.Need-returns
+unfolding sumFirst
+returns c = cc
+
+pub sum-first-spec : {M : Type 1} → statement M
+sum-first-spec =
+    tie.close
+    (tie.spec scale-requires scale-requires-2 add-requires scale-requires-3 add-requires-2 returns)

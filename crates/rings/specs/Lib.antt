@@ -1,0 +1,3 @@
+pub mod Axes
+pub mod Vertices
+pub mod Rings

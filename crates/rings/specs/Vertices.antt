@@ -1,0 +1,69 @@
+-- The vertices of each kind (document 01, 'Frames and vertices'): of a swept one from the axes at its ring, whose origin is p, of a closed
+-- cylinder from its sizes. d = (C, Sn) is the direction of the vertex's place on its ring. Definitions only.
+use mathlib.Core.List.{List, [], _∷_}
+use Prim.Native.Nat.{ℕ, _-_, _*_}
+use lib.Ieee.{Float, binary32, ofBits, neg}
+use Rattle.laws.specs.Blocks.{blocks}
+use Rattle.surface.specs.declared.caps.End.{End}
+use Rattle.surface.specs.declared.caps.End.the-variants.{Bottom, Top}
+use Rattle.surface.specs.declared.grid.Chain.{Chain}
+use Rattle.surface.specs.declared.grid.Chain.the-variants.{Open, Closed}
+use Rattle.vec3.specs.Points.{plus, times, over, sumOf, differenceOf, scaled}
+use Rattle.vec3.specs.Turns.{whole, turnOf}
+use Rattle.vec3.specs.declared.points.Point.{Point}
+use Rattle.vec3.specs.declared.turns.Direction.{Direction}
+use Rattle.rings.specs.declared.axes.Axes.{Axes}
+
+-- "Vertices are three f32 each" ('The shared set').
+abbrev pub coordinates : Point → List Float
+coordinates p = p .x ∷ p .y ∷ p .z ∷ []
+
+-- A ring of n vertices: "(C, Sn) = turn(i, n)" for i from 0.
+abbrev pub ringOf : (Direction → Point) → ℕ → List Float
+ringOf vertex n = blocks n (λ i. coordinates (vertex (turnOf i n)))
+
+-- Tube: "(p + ey·(r·C)) + ex·(r·Sn)".
+unfoldable pub tubeVertex : Axes → Float → Direction → Point
+tubeVertex a r d = sumOf (sumOf (a .origin) (scaled (a .ey) (times r (d .cos)))) (scaled (a .ex) (times r (d .sin)))
+
+-- Capsule: "bottom pole p − ez·r", "Top pole p + ez·r".
+unfoldable pub bottomPole : Axes → Float → Point
+bottomPole a r = differenceOf (a .origin) (scaled (a .ez) r)
+
+unfoldable pub topPole : Axes → Float → Point
+topPole a r = sumOf (a .origin) (scaled (a .ez) r)
+
+-- "Bottom rings ..: c0 = r·t.cos, ((p + ez·(−r·t.sin)) + ey·(c0·C)) + ex·(c0·Sn)."
+unfoldable pub bottomVertex : Axes → Float → Direction → Direction → Point
+bottomVertex a r t d =
+    let c0 = times r (t .cos) in
+    sumOf (sumOf (sumOf (a .origin) (scaled (a .ez) (times (neg r) (t .sin)))) (scaled (a .ey) (times c0 (d .cos)))) (scaled (a .ex) (times c0 (d .sin)))
+
+-- "Top rings: .. ((p + ez·(r·t.sin)) + ex·(c0·Sn)) + ey·(c0·C)."
+unfoldable pub topVertex : Axes → Float → Direction → Direction → Point
+topVertex a r t d =
+    let c0 = times r (t .cos) in
+    sumOf (sumOf (sumOf (a .origin) (scaled (a .ez) (times r (t .sin)))) (scaled (a .ex) (times c0 (d .sin)))) (scaled (a .ey) (times c0 (d .cos)))
+
+-- "Bottom rings j below L: t = turn(L − 1 − j, 4L)", "Top rings: t = turn(j, 4L)"
+abbrev pub capVertex : End → Axes → Float → ℕ → ℕ → Direction → Point
+capVertex Bottom a r L j = bottomVertex a r (turnOf (L - 1 - j) (4 * L))
+capVertex Top a r L j = topVertex a r (turnOf j (4 * L))
+
+-- Torus: "p + (ex·C + ey·Sn)·r".
+unfoldable pub torusVertex : Axes → Float → Direction → Point
+torusVertex a r d = sumOf (a .origin) (scaled (sumOf (scaled (a .ex) (d .cos)) (scaled (a .ey) (d .sin))) r)
+
+-- the vertex round p on a curve that is open, as a tube's, or closed, as a torus's
+abbrev pub sideVertex : Chain → Axes → Float → Direction → Point
+sideVertex Open = tubeVertex
+sideVertex Closed = torusVertex
+
+-- Closed cylinder: "ring g: (r·C, low + (length/S)·g, r·Sn)".
+unfoldable pub levelVertex : Float → Float → Float → ℕ → ℕ → Direction → Point
+levelVertex r low length S g d =
+    record { x = times r (d .cos); y = plus low (times (over length (whole S)) (whole g)); z = times r (d .sin) }
+
+-- "poles (+0, low, +0), (+0, low + length, +0)"
+abbrev pub pole : Float → Point
+pole y = record { x = ofBits binary32 0; y = y; z = ofBits binary32 0 }
