@@ -1,5 +1,9 @@
 -- Each chain answers for its own case. Assumes nothing.
+use mathlib.Core.Path.{sym, ap, _∙_}
 use borrow.Author.Needs.{needs}
+use Rattle.surface.specs.declared.grid.Chain.{Chain}
+use Rattle.vec3.specs.Points.{normalised}
+use Rattle.rings.specs.Axes.{betweenOf}
 use Rattle.rings.proofs.axes.framez.Statement.{statement}
 use Rattle.rings.proofs.axes.framez.Tie as tie
 
@@ -16,7 +20,10 @@ enum-told-2 : tie.Need-enum-told-2
 enum-told-2 c = search needs
 
 returns : tie.Need-returns
-returns c = cc
+returns c =
+    let a = c .before .before .before .before .args in
+    let sum = c .normalize .ensures ∙ ap normalised (c .before .add .ensures) in
+    sum ∙ ap (λ (chain : Chain). betweenOf chain (a .u) (a .w)) (sym (c .before .before .enum-told .given .1))
 
 returns-2 : tie.Need-returns-2
 returns-2 c = search needs

@@ -9,7 +9,9 @@ cross-requires c κs = search needs
 
 returns : tie.Need-returns
 unfolding axesAt
-returns c = cc
+returns c =
+    let a = c .before .before .args in
+    (λ i. record { origin = a .origin; ex = a .frame .ex; ey = c .cross .ensures i; ez = a .ez })
 
 pub at-spec : {M : Type 1} → statement M
 at-spec = tie.close (tie.spec cross-requires returns)

@@ -1,6 +1,9 @@
 -- The terms are added in the order of the definition. Assumes nothing.
-use Rattle.rings.specs.Rings.{sumFirst}
+use mathlib.Core.Path.{ap, _∙_}
 use borrow.Author.Needs.{needs}
+use Rattle.vec3.specs.Points.{sumOf, scaled}
+use Rattle.vec3.specs.declared.points.Point.{Point}
+use Rattle.rings.specs.Rings.{sumFirst}
 use Rattle.rings.proofs.ring.Ring.sum_first.Statement.{statement}
 use Rattle.rings.proofs.ring.Ring.sum_first.Tie as tie
 
@@ -21,7 +24,13 @@ add-requires-2 c κs = search needs
 
 returns : tie.Need-returns
 unfolding sumFirst
-returns c = cc
+returns c =
+    let both = c .before .before in
+    let k = both .before .before .before .args .self in
+    let first = both .before .before .scale .ensures in
+    let second = both .before .scale2 .ensures in
+    let sum = both .add .ensures ∙ (λ i. sumOf (first i) (second i)) in
+    c .add2 .ensures ∙ ap (sumOf (k .centre)) (c .before .scale3 .ensures ∙ ap (λ (p : Point). scaled p (k .radius)) sum)
 
 pub sum-first-spec : {M : Type 1} → statement M
 sum-first-spec =
