@@ -1,1 +1,2 @@
 pub mod RingVertices
+mod Terms

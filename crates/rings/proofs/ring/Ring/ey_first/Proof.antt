@@ -1,8 +1,7 @@
 -- The terms are added in the order of the definition. Assumes nothing.
-use mathlib.Core.Path.{ap, _∙_}
 use borrow.Author.Needs.{needs}
-use Rattle.vec3.specs.Points.{sumOf}
 use Rattle.rings.specs.Rings.{eyFirst}
+use Rattle.rings.proofs.Terms.{both-terms}
 use Rattle.rings.proofs.ring.Ring.ey_first.Statement.{statement}
 use Rattle.rings.proofs.ring.Ring.ey_first.Tie as tie
 
@@ -22,9 +21,8 @@ returns : tie.Need-returns
 unfolding eyFirst
 returns c =
     let sum = c .before .before .before .before in
-    let start = sum .before .before .before .before in
-    let first = sum .add .ensures ∙ ap (sumOf (start .args .self .centre)) (sum .before .scale .ensures) in
-    c .add2 .ensures ∙ (λ i. sumOf (first i) (c .before .scale2 .ensures i))
+    let k = sum .before .before .before .before .args .self in
+    both-terms (k .centre) (sum .before .scale .ensures) (sum .add .ensures) (c .before .scale2 .ensures) (c .add2 .ensures)
 
 pub ey-first-spec : {M : Type 1} → statement M
 ey-first-spec =
