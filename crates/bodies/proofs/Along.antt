@@ -54,11 +54,11 @@ module _ (m : ℕ) (c : List Float) where
   ez-last h on = rw (ne-eqb m 0 (λ e. omega arith), eq-eqb m m refl) (ap (λ (b : Carried). b .direction) on)
 
 -- the axes, as the calls make them: on the first segment, at vertex 0
-pub axes-first : (chain : Chain) (m : ℕ) (c : List Float) {a : Axes} {p : Point} {b : Carried}
-    → 1 ≤ m → b ≡ carriedOf chain m c 0 → p ≡ vertexOf c 0 → a ≡ axesAt p (b .frame) (b .direction) → a ≡ axesAlong chain m c 0
+pub axes-first : (chain : Chain) (m : ℕ) (c : List Float) {a : Axes} {b : Carried}
+    → 1 ≤ m → b ≡ carriedOf chain m c 0 → a ≡ axesAt (vertexOf c 0) (b .frame) (b .direction) → a ≡ axesAlong chain m c 0
 unfolding carriedOf axesAt axesOf vtx2framey polyloop3.axesOf polyloop3.vtx2framex
-axes-first Open m c h on at made = made ∙ (λ i. axesAt (at i) (frame-within m c 0 h on i) (ez-first m c on i))
-axes-first Closed m c h on at made = made ∙ (λ i. axesAt (at i) (on i .frame) (on i .direction))
+axes-first Open m c h on made = made ∙ (λ i. axesAt (vertexOf c 0) (frame-within m c 0 h on i) (ez-first m c on i))
+axes-first Closed m c h on made = made ∙ (λ i. axesAt (vertexOf c 0) (on i .frame) (on i .direction))
 
 -- one segment on, at the vertex between the two
 pub axes-between : (chain : Chain) (m : ℕ) (c : List Float) (g : ℕ) {a : Axes} {p w z : Point} {b b′ : Carried} → 1 ≤ g → g < m
@@ -71,7 +71,7 @@ axes-between Closed m c g l h before along on at ez made =
     made ∙ (λ i. axesAt (at i) (carried-on Closed m c g l before along on i .frame) ((ez ∙ along) i))
 
 -- on the last segment of an open curve, at its end
-pub axes-last : (m : ℕ) (c : List Float) {a : Axes} {p : Point} {b : Carried}
-    → 1 ≤ m → b ≡ carriedOf Open m c (m - 1) → p ≡ vertexOf c m → a ≡ axesAt p (b .frame) (b .direction) → a ≡ axesAlong Open m c m
+pub axes-last : (m : ℕ) (c : List Float) {a : Axes} {b : Carried}
+    → 1 ≤ m → b ≡ carriedOf Open m c (m - 1) → a ≡ axesAt (vertexOf c m) (b .frame) (b .direction) → a ≡ axesAlong Open m c m
 unfolding axesAt axesOf vtx2framey
-axes-last m c h on at made = made ∙ (λ i. axesAt (at i) (frame-last m c on i) (ez-last m c h on i))
+axes-last m c h on made = made ∙ (λ i. axesAt (vertexOf c m) (frame-last m c on i) (ez-last m c h on i))

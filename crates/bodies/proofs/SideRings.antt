@@ -7,7 +7,6 @@ use Rattle.laws.specs.Overwrite.{overwrite}
 use Rattle.laws.specs.Blocks.{blocks, first-and-others}
 use Rattle.surface.specs.declared.grid.Chain.{Chain}
 use Rattle.surface.specs.declared.grid.Chain.the-variants.{Open, Closed}
-use Rattle.vec3.specs.declared.points.Point.{Point}
 use Rattle.curve.specs.Segments.{vertexOf}
 use Rattle.curve.specs.Framex.{carriedOf}
 use Rattle.curve.specs.declared.framex.Carried.{Carried}
@@ -34,10 +33,10 @@ ring-along chain m c r n g is at =
 
 -- the first ring, as the calls make it, and behind it those at vertices 1 to m − 1
 pub first-and-inner : (chain : Chain) (m : ℕ) (c : List Float) (r : Float) (n : ℕ) (t₀ : List Float)
-    {b : Carried} {p : Point} {a : Axes} {k : Ring} {t t′ : List Float} → 1 ≤ m
-    → b ≡ carriedOf chain m c 0 → p ≡ vertexOf c 0 → a ≡ axesAt p (b .frame) (b .direction) → k ≡ sideOf chain a r
+    {b : Carried} {a : Axes} {k : Ring} {t t′ : List Float} → 1 ≤ m
+    → b ≡ carriedOf chain m c 0 → a ≡ axesAt (vertexOf c 0) (b .frame) (b .direction) → k ≡ sideOf chain a r
     → t ≡ overwrite 0 (ringOf (ringVertex (k .order) k) n) t₀ → t′ ≡ overwrite (n * 3) (innerRings chain m c r n) t
     → t′ ≡ overwrite 0 (blocks m (sweptRing chain m c r n)) t₀
-first-and-inner chain m c r n t₀ h on at made is first inner =
+first-and-inner chain m c r n t₀ h on made is first inner =
     first-and-others m (n * 3) (sweptRing chain m c r n) t₀ h (length-swept chain m c r n 0) first
-    (ring-along chain m c r n 0 is (axes-first chain m c h on at made)) inner
+    (ring-along chain m c r n 0 is (axes-first chain m c h on made)) inner

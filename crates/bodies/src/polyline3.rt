@@ -10,9 +10,9 @@ use crate::directions::TABLE;
 use crate::directions::fill_directions;
 use crate::ring_writer::put_point;
 use crate::ring_writer::write_ring;
+use crate::swept::axes_on;
 use crate::swept::write_inner;
 use curve::Carried;
-use rings::Axes;
 use rings::side;
 use surface::Chain;
 use surface::End;
@@ -34,10 +34,10 @@ pub(crate) fn set_vtx2xyz_for_generalized_cylinder_open_end(
     fill_directions(n, &mut table);
     let size = n as usize * 3;
     let start = Carried::first(Chain::Open, m, curve);
-    let first = Axes::at(curve::vertex(curve, 0), start.frame, start.direction);
+    let first = axes_on(curve, 0, start);
     write_ring(out, 0, side(Chain::Open, first, r), n, &table);
     let end = write_inner(out, size, Chain::Open, m, curve, start, r, n, &table);
-    let last = Axes::at(curve::vertex(curve, m as usize), end.frame, end.direction);
+    let last = axes_on(curve, m as usize, end);
     write_ring(
         out,
         m as usize * size,
@@ -64,11 +64,11 @@ pub(crate) fn to_trimesh3_capsule(
     let size = n as usize * 3;
     let cap = longitudes as usize * size;
     let start = Carried::first(Chain::Open, m, curve);
-    let first = Axes::at(curve::vertex(curve, 0), start.frame, start.direction);
+    let first = axes_on(curve, 0, start);
     put_point(out, 0, first.origin.sub(first.ez.scale(r)));
     write_cap(out, 3, End::Bottom, first, r, longitudes, n, &table);
     let end = write_inner(out, 3 + cap, Chain::Open, m, curve, start, r, n, &table);
-    let last = Axes::at(curve::vertex(curve, m as usize), end.frame, end.direction);
+    let last = axes_on(curve, m as usize, end);
     let top = 3 + cap + (m as usize - 1) * size;
     write_cap(out, top, End::Top, last, r, longitudes, n, &table);
     put_point(out, top + cap, last.origin.add(last.ez.scale(r)));

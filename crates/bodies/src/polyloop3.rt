@@ -6,9 +6,9 @@ ghost use Rattle.bodies.specs.Polyloop3.{torusVertices};
 use crate::directions::TABLE;
 use crate::directions::fill_directions;
 use crate::ring_writer::write_ring;
+use crate::swept::axes_on;
 use crate::swept::write_inner;
 use curve::Carried;
-use rings::Axes;
 use rings::side;
 use surface::Chain;
 
@@ -20,7 +20,7 @@ pub(crate) fn to_trimesh3_torus(out: &mut [f32], curve: &[f32], vertices: u16, n
     let mut table = [0.0f32; TABLE];
     fill_directions(n, &mut table);
     let start = Carried::first(Chain::Closed, vertices, curve);
-    let first = Axes::at(curve::vertex(curve, 0), start.frame, start.direction);
+    let first = axes_on(curve, 0, start);
     write_ring(out, 0, side(Chain::Closed, first, r), n, &table);
     write_inner(
         out,

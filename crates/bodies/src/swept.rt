@@ -2,7 +2,9 @@ ghost use mathlib.Core.Path.{_≡_};
 ghost use Prim.Native.Nat.{_+_, _-_, _*_, _≤_};
 ghost use lib.ListN.{length};
 ghost use Rattle.laws.specs.Overwrite.{overwrite};
+ghost use Rattle.curve.specs.Segments.{vertexOf};
 ghost use Rattle.curve.specs.Framex.{carriedOf};
+ghost use Rattle.rings.specs.Axes.{axesAt};
 ghost use Rattle.bodies.specs.Directions.{Directions};
 ghost use Rattle.bodies.specs.Swept.{innerRings};
 use crate::ring_writer::write_ring;
@@ -11,6 +13,13 @@ use rings::Axes;
 use rings::framez;
 use rings::side;
 use surface::Chain;
+
+// The axes at vertex k with ez along the segment that the frame is carried on, as at the ends of a curve.
+pub(crate) fn axes_on(curve: &[f32], k: usize, carried: Carried) -> Axes
+    ensures { λ r. ⌜ r ≡ axesAt (vertexOf (now (curve .entry)) k) (carried .frame) (carried .direction) ⌝ }
+{
+    Axes::at(curve::vertex(curve, k), carried.frame, carried.direction)
+}
 
 // The rings between `count` segments, at vertices 1 to count − 1, from place `at` on; the frame is handed in on the first segment and
 // back on the last.

@@ -21,7 +21,7 @@ abbrev entry : tie.After-first → tie.After-slice-known
 entry c = c .before .before .before .before .before
 
 abbrev carrying : tie.After-write-ring → tie.After-first
-carrying c = c .before .before .before .before .before .before
+carrying c = c .before .before .before .before .before
 
 -- the three writes are within bounds
 room : (c : tie.After-slice-known) → let a = c .before .args in
@@ -45,11 +45,8 @@ mul-size c = search needs
 first-requires : tie.Need-first-requires
 first-requires c κs = search needs
 
-vertex-requires : tie.Need-vertex-requires
-vertex-requires c κs = search needs
-
-at-requires : tie.Need-at-requires
-at-requires c κs = search needs
+axes-on-requires : tie.Need-axes-on-requires
+axes-on-requires c κs = search needs
 
 side-requires : tie.Need-side-requires
 side-requires c κs = search needs
@@ -58,7 +55,7 @@ slice-aggregate-write-ring : tie.Need-slice-aggregate-write-ring
 slice-aggregate-write-ring c = search needs
 
 write-ring-requires : tie.Need-write-ring-requires
-write-ring-requires c κs = let f = c .before .before .before .before .before in (omega (arith, room (entry f)), f .before .before .fill-directions .ensures)
+write-ring-requires c κs = let f = c .before .before .before .before in (omega (arith, room (entry f)), f .before .before .fill-directions .ensures)
 
 slice-aggregate-write-inner : tie.Need-slice-aggregate-write-inner
 slice-aggregate-write-inner c = search needs
@@ -69,50 +66,47 @@ write-inner-requires c κs = let w = c .before .before .before .before in
     let same = w .write-ring .kept .0 in
     ((entry f .before .pre .0, f .first .ensures), (omega (arith, room (entry f)), f .before .before .fill-directions .ensures))
 
-vertex-requires-2 : tie.Need-vertex-requires-2
-vertex-requires-2 c κs = search needs
-
-at-requires-2 : tie.Need-at-requires-2
-at-requires-2 c κs = search needs
+axes-on-requires-2 : tie.Need-axes-on-requires-2
+axes-on-requires-2 c κs = search needs
 
 mul-write-ring : tie.Need-mul-write-ring
-mul-write-ring c = let s = entry (carrying (c .before .before .before .before .before .before .before .before .before .before)) in omega (arith, room s)
+mul-write-ring c = let s = entry (carrying (c .before .before .before .before .before .before .before .before .before)) in omega (arith, room s)
 
 side-requires-2 : tie.Need-side-requires-2
 side-requires-2 c κs = search needs
 
 slice-aggregate-write-ring-2 : tie.Need-slice-aggregate-write-ring-2
-slice-aggregate-write-ring-2 c = let e = c .before .before .before .before .before .before .before in
+slice-aggregate-write-ring-2 c = let e = c .before .before .before .before .before .before in
     let f = carrying (e .before .before .before .before .before) in
     search needs
 
 write-ring-requires-2 : tie.Need-write-ring-requires-2
-write-ring-requires-2 c κs = let e = c .before .before .before .before .before .before .before in
+write-ring-requires-2 c κs = let e = c .before .before .before .before .before .before in
     let w = e .before .before .before .before .before in
     let f = carrying w in
     let same = e .write-inner .kept .0 ∙ w .write-ring .kept .0 in
     (omega (arith, room (entry f)), f .before .before .fill-directions .ensures)
 
 same-length : tie.Need-same-length
-same-length c = let e = c .before .before .before .before .before .before .before .before .before .before in
+same-length c = let e = c .before .before .before .before .before .before .before .before .before in
     c .before .before .write-ring2 .kept .0 ∙ e .write-inner .kept .0 ∙ e .before .before .before .before .before .write-ring .kept .0
 
 returns : tie.Need-returns
 returns c = let y = c .before .before .before .before .before .before in
-    let e = y .before .before .before .before in
+    let e = y .before .before .before in
     let w = e .before .before .before .before .before in
     let x = w .before .before .before .before in
-    let f = x .before .before in
+    let f = x .before in
     let s = entry f .before in
     let a = s .args in
     let m = a .m in
     let curve = now (a .curve) in
     one-more 0 m (a .n * 3) (sweptRing Open m curve (a .r) (a .n)) (now (a .out)) (λ g h. length-swept Open m curve (a .r) (a .n) g)
-    (first-and-inner Open m curve (a .r) (a .n) (now (a .out)) (s .pre .0) (f .first .ensures) (x .before .vertex .ensures)
-    (x .at .ensures) (w .before .before .side .ensures) (w .write-ring .ensures) (e .write-inner .ensures .1))
+    (first-and-inner Open m curve (a .r) (a .n) (now (a .out)) (s .pre .0) (f .first .ensures) (x .axes-on .ensures)
+    (w .before .before .side .ensures) (w .write-ring .ensures) (e .write-inner .ensures .1))
     (sym (zero-add (m * (a .n * 3)))) (c .before .before .write-ring2 .ensures)
     (ring-along Open m curve (a .r) (a .n) m (c .before .before .before .before .side2 .ensures)
-    (axes-last m curve (s .pre .0) (e .write-inner .ensures .0) (y .before .vertex2 .ensures) (y .at2 .ensures)))
+    (axes-last m curve (s .pre .0) (e .write-inner .ensures .0) (y .axes-on2 .ensures)))
 
 pub set-vtx2xyz-for-generalized-cylinder-open-end-spec : {M : Type 1} → statement M
 set-vtx2xyz-for-generalized-cylinder-open-end-spec =
@@ -122,15 +116,13 @@ set-vtx2xyz-for-generalized-cylinder-open-end-spec =
     fill-directions-requires
     mul-size
     first-requires
-    vertex-requires
-    at-requires
+    axes-on-requires
     side-requires
     slice-aggregate-write-ring
     write-ring-requires
     slice-aggregate-write-inner
     write-inner-requires
-    vertex-requires-2
-    at-requires-2
+    axes-on-requires-2
     mul-write-ring
     side-requires-2
     slice-aggregate-write-ring-2

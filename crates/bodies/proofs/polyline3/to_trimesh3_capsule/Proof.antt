@@ -48,7 +48,7 @@ abbrev entry : tie.After-first → tie.After-slice-known
 entry c = c .before .before .before .before .before
 
 abbrev carrying : tie.After-write-cap → tie.After-first
-carrying c = c .before .before .before .before .before .before .before .before .before .before .before
+carrying c = c .before .before .before .before .before .before .before .before .before .before
 
 -- the five writes are within bounds
 room : (c : tie.After-slice-known) → let a = c .before .args in
@@ -74,11 +74,8 @@ mul-cap c = let s = c .before .before .before .before in omega (arith, room s)
 first-requires : tie.Need-first-requires
 first-requires c κs = search needs
 
-vertex-requires : tie.Need-vertex-requires
-vertex-requires c κs = search needs
-
-at-requires : tie.Need-at-requires
-at-requires c κs = search needs
+axes-on-requires : tie.Need-axes-on-requires
+axes-on-requires c κs = search needs
 
 scale-requires : tie.Need-scale-requires
 scale-requires c κs = search needs
@@ -87,13 +84,13 @@ sub-requires : tie.Need-sub-requires
 sub-requires c κs = search needs
 
 put-point-requires : tie.Need-put-point-requires
-put-point-requires c κs = omega (arith, room (entry (c .before .before .before .before .before)))
+put-point-requires c κs = omega (arith, room (entry (c .before .before .before .before)))
 
 slice-aggregate-write-cap : tie.Need-slice-aggregate-write-cap
 slice-aggregate-write-cap c = search needs
 
 write-cap-requires : tie.Need-write-cap-requires
-write-cap-requires c κs = let f = c .before .before .before .before .before .before .before .before .before .before in
+write-cap-requires c κs = let f = c .before .before .before .before .before .before .before .before .before in
     let pole = c .before .before .before .before .put-point .kept .0 in
     (omega (arith, room (entry f)), f .before .before .fill-directions .ensures)
 
@@ -110,36 +107,33 @@ write-inner-requires c κs = let k = c .before .before .before .before in
     let same = k .write-cap .kept .0 ∙ k .before .before .before .before .before .put-point .kept .0 in
     ((s .before .pre .segment, f .first .ensures), (omega (arith, room s), f .before .before .fill-directions .ensures))
 
-vertex-requires-2 : tie.Need-vertex-requires-2
-vertex-requires-2 c κs = search needs
-
-at-requires-2 : tie.Need-at-requires-2
-at-requires-2 c κs = search needs
+axes-on-requires-2 : tie.Need-axes-on-requires-2
+axes-on-requires-2 c κs = search needs
 
 add-top : tie.Need-add-top
-add-top c = let s = entry (carrying (c .before .before .before .before .before .before .before .before .before)) in omega (arith, room s)
+add-top c = let s = entry (carrying (c .before .before .before .before .before .before .before .before)) in omega (arith, room s)
 
 sub-top : tie.Need-sub-top
-sub-top c = let s = entry (carrying (c .before .before .before .before .before .before .before .before .before)) in omega (arith, room s)
+sub-top c = let s = entry (carrying (c .before .before .before .before .before .before .before .before)) in omega (arith, room s)
 
 mul-top : tie.Need-mul-top
-mul-top c = let s = entry (carrying (c .before .before .before .before .before .before .before .before .before)) in omega (arith, room s)
+mul-top c = let s = entry (carrying (c .before .before .before .before .before .before .before .before)) in omega (arith, room s)
 
 add-top-2 : tie.Need-add-top-2
-add-top-2 c = let s = entry (carrying (c .before .before .before .before .before .before .before .before .before)) in omega (arith, room s)
+add-top-2 c = let s = entry (carrying (c .before .before .before .before .before .before .before .before)) in omega (arith, room s)
 
 slice-aggregate-write-cap-2 : tie.Need-slice-aggregate-write-cap-2
-slice-aggregate-write-cap-2 c = let f = carrying (c .before .before .before .before .before .before .before .before .before .before .before) in search needs
+slice-aggregate-write-cap-2 c = let f = carrying (c .before .before .before .before .before .before .before .before .before .before) in search needs
 
 write-cap-requires-2 : tie.Need-write-cap-requires-2
-write-cap-requires-2 c κs = let e = c .before .before .before .before .before .before in
+write-cap-requires-2 c κs = let e = c .before .before .before .before .before in
     let k = e .before .before .before .before .before in
     let f = carrying k in
     let same = e .write-inner .kept .0 ∙ k .write-cap .kept .0 ∙ k .before .before .before .before .before .put-point .kept .0 in
     (omega (arith, room (entry f)), f .before .before .fill-directions .ensures)
 
 add-put-point : tie.Need-add-put-point
-add-put-point c = let e = c .before .before .before .before .before .before .before .before .before .before in
+add-put-point c = let e = c .before .before .before .before .before .before .before .before .before in
     let s = entry (carrying (e .before .before .before .before .before)) in
     omega (arith, room s)
 
@@ -151,14 +145,14 @@ add-requires c κs = search needs
 
 put-point-requires-2 : tie.Need-put-point-requires-2
 put-point-requires-2 c κs = let t = c .before .before .before .before .before in
-    let e = t .before .before .before .before .before .before .before in
+    let e = t .before .before .before .before .before .before in
     let k = e .before .before .before .before .before in
     let same = t .write-cap2 .kept .0 ∙ e .write-inner .kept .0 ∙ k .write-cap .kept .0 ∙ k .before .before .before .before .before .put-point .kept .0 in
     omega (arith, room (entry (carrying k)))
 
 same-length : tie.Need-same-length
 same-length c = let t = c .before .before .before .before .before .before .before .before in
-    let e = t .before .before .before .before .before .before .before in
+    let e = t .before .before .before .before .before .before in
     let k = e .before .before .before .before .before in
     c .before .before .put-point2 .kept .0 ∙ t .write-cap2 .kept .0 ∙ e .write-inner .kept .0 ∙ k .write-cap .kept .0
     ∙ k .before .before .before .before .before .put-point .kept .0
@@ -168,20 +162,20 @@ unfolding bottomPole topPole
 returns c = let q = c .before .before .before in
     let t = q .before .before .before .before .before in
     let y = t .before .before .before in
-    let e = y .before .before .before .before in
+    let e = y .before .before .before in
     let k = e .before .before .before .before .before in
     let p = k .before .before .before .before .before in
     let x = p .before .before .before .before in
-    let f = x .before .before in
+    let f = x .before in
     let s = entry f .before in
     let a = s .args in
     let m = a .m in
     let curve = now (a .curve) in
     five-written (a .n) (a .longitudes) (a .r) m curve (now (a .out))
-    (axes-first Open m curve (s .pre .segment) (f .first .ensures) (x .before .vertex .ensures) (x .at .ensures))
-    (p .before .sub .ensures ∙ ap (differenceOf (x .at .result .origin)) (p .before .before .scale .ensures))
-    (axes-last m curve (s .pre .segment) (e .write-inner .ensures .0) (y .before .vertex2 .ensures) (y .at2 .ensures))
-    (q .add .ensures ∙ ap (sumOf (y .at2 .result .origin)) (q .before .scale2 .ensures))
+    (axes-first Open m curve (s .pre .segment) (f .first .ensures) (x .axes-on .ensures))
+    (p .before .sub .ensures ∙ ap (differenceOf (x .axes-on .result .origin)) (p .before .before .scale .ensures))
+    (axes-last m curve (s .pre .segment) (e .write-inner .ensures .0) (y .axes-on2 .ensures))
+    (q .add .ensures ∙ ap (sumOf (y .axes-on2 .result .origin)) (q .before .scale2 .ensures))
     (p .put-point .ensures) (k .write-cap .ensures) (e .write-inner .ensures .1) (t .write-cap2 .ensures) (c .before .before .put-point2 .ensures)
 
 pub to-trimesh3-capsule-spec : {M : Type 1} → statement M
@@ -193,8 +187,7 @@ to-trimesh3-capsule-spec =
     mul-size
     mul-cap
     first-requires
-    vertex-requires
-    at-requires
+    axes-on-requires
     scale-requires
     sub-requires
     put-point-requires
@@ -203,8 +196,7 @@ to-trimesh3-capsule-spec =
     add-write-inner
     slice-aggregate-write-inner
     write-inner-requires
-    vertex-requires-2
-    at-requires-2
+    axes-on-requires-2
     add-top
     sub-top
     mul-top

@@ -22,11 +22,8 @@ fill-directions-requires c κs = search needs
 first-requires : tie.Need-first-requires
 first-requires c κs = search needs
 
-vertex-requires : tie.Need-vertex-requires
-vertex-requires c κs = search needs
-
-at-requires : tie.Need-at-requires
-at-requires c κs = search needs
+axes-on-requires : tie.Need-axes-on-requires
+axes-on-requires c κs = search needs
 
 side-requires : tie.Need-side-requires
 side-requires c κs = search needs
@@ -35,7 +32,7 @@ slice-aggregate-write-ring : tie.Need-slice-aggregate-write-ring
 slice-aggregate-write-ring c = search needs
 
 write-ring-requires : tie.Need-write-ring-requires
-write-ring-requires c κs = let f = c .before .before .before .before .before in
+write-ring-requires c κs = let f = c .before .before .before .before in
     let s = entry f in
     (omega (arith, row-within 0 (s .args .vertices) (s .args .n * 3) (s .pre .0)), f .before .before .fill-directions .ensures)
 
@@ -47,7 +44,7 @@ slice-aggregate-write-inner c = search needs
 
 write-inner-requires : tie.Need-write-inner-requires
 write-inner-requires c κs = let w = c .before .before .before .before in
-    let f = w .before .before .before .before .before .before in
+    let f = w .before .before .before .before .before in
     let s = entry f in
     let same = w .write-ring .kept .0 in (
       (s .pre .0, f .first .ensures),
@@ -60,11 +57,11 @@ same-length c = search needs
 returns : tie.Need-returns
 returns c = let w = c .before .before .before .before .before .before .before in
     let x = w .before .before .before .before in
-    let f = x .before .before in
+    let f = x .before in
     let s = entry f in
     let a = s .args in
-    first-and-inner Closed (a .vertices) (now (a .curve)) (a .r) (a .n) (now (a .out)) (s .pre .0) (f .first .ensures) (x .before .vertex .ensures)
-    (x .at .ensures) (w .before .before .side .ensures) (w .write-ring .ensures) (c .before .before .write-inner .ensures .1)
+    first-and-inner Closed (a .vertices) (now (a .curve)) (a .r) (a .n) (now (a .out)) (s .pre .0) (f .first .ensures) (x .axes-on .ensures)
+    (w .before .before .side .ensures) (w .write-ring .ensures) (c .before .before .write-inner .ensures .1)
 
 pub to-trimesh3-torus-spec : {M : Type 1} → statement M
 to-trimesh3-torus-spec =
@@ -73,8 +70,7 @@ to-trimesh3-torus-spec =
     slice-aggregate-fill-directions
     fill-directions-requires
     first-requires
-    vertex-requires
-    at-requires
+    axes-on-requires
     side-requires
     slice-aggregate-write-ring
     write-ring-requires
