@@ -2,8 +2,9 @@ ghost use mathlib.Core.Path.{_≡_};
 ghost use Prim.Native.Nat.{_≤_};
 ghost use lib.ListN.{length, take};
 ghost use Rattle.set_table.specs.Buffers.{buffers};
-ghost use Rattle.ledger.specs.Calls.{additions};
+ghost use Rattle.ledger.specs.Calls.{additions, clearedSet};
 ghost use Rattle.records.specs.Records.{recordWords, firstAddition};
+ghost use Rattle.sweep.specs.Input.{Fed};
 use little_endian::read_words;
 use records::HEAD_WORDS;
 use records::add_first;
@@ -50,8 +51,12 @@ fn add_record(words: &[u32], table: &mut [u32], vertices: &mut [f32], triangles:
     add_first(words, table, vertices, triangles);
 }
 
-// Adds the body of each record of standard input. The count ends the loop by itself, if the input never does.
-pub(crate) fn add_records(table: &mut [u32], vertices: &mut [f32], triangles: &mut [u32]) {
+// Adds the body of each record of standard input, and says how many records there were. The count ends the loop by itself, if the input
+// never does.
+fn add_records(table: &mut [u32], vertices: &mut [f32], triangles: &mut [u32]) -> u64
+    ensures { λ r. let s = buffers (now (table .entry)) (now (vertices .entry)) (now (triangles .entry)) in
+        ⌜ Fed r s (buffers (now (table .exit)) (now (vertices .exit)) (now (triangles .exit))) ⌝ }
+{
     let mut space = [0u8; BYTES];
     let mut room = [0u32; WORDS];
     let bytes: &mut [u8] = &mut space;
@@ -60,9 +65,19 @@ pub(crate) fn add_records(table: &mut [u32], vertices: &mut [f32], triangles: &m
     while count < 18446744073709551615 {
         let end = read_record(bytes, words);
         if end == 0 {
-            return;
+            return count;
         }
         add_record(&words[..end], table, vertices, triangles);
         count += 1;
     }
+    count
+}
+
+// Clears the set and adds the body of each record of standard input.
+pub(crate) fn collect(table: &mut [u32], vertices: &mut [f32], triangles: &mut [u32]) -> u64
+    ensures { λ r. let s = buffers (now (table .entry)) (now (vertices .entry)) (now (triangles .entry)) in
+        ⌜ Fed r (clearedSet s) (buffers (now (table .exit)) (now (vertices .exit)) (now (triangles .exit))) ⌝ }
+{
+    shared_set::clear(table);
+    add_records(table, vertices, triangles)
 }

@@ -3,7 +3,7 @@
 mod input;
 mod output;
 
-use crate::input::add_records;
+use crate::input::collect;
 use crate::output::write_file;
 
 // 1 + 6 * 64: a table of the most bodies.
@@ -19,7 +19,6 @@ fn main() {
     let table: &mut [u32] = &mut entries;
     let vertices: &mut [f32] = &mut floats;
     let triangles: &mut [u32] = &mut indices;
-    shared_set::clear(table);
-    add_records(table, vertices, triangles);
+    collect(table, vertices, triangles);
     write_file(table, vertices, triangles);
 }

@@ -1,10 +1,12 @@
 -- What was read is one record; no turn of the loop changes a buffer's length, and the count ends it. Assumes nothing.
-use mathlib.Core.Path.{_≡_, _∙_}
+use mathlib.Core.Path.{_≡_, refl}
 use Prim.Native.Nat.{_-_}
 use native.Mathlib.Omega.{arith}
 use borrow.Author.Needs.{needs}
 use lib.ListN.{length, length-take}
-use lib.Seq.{length-take-le}
+use Rattle.set_table.specs.Buffers.{buffers}
+use Rattle.sweep.specs.Input.{Fed}
+use Rattle.sweep.proofs.Fed.{read-whole, fed-none, fed-next}
 use Rattle.sweep.proofs.input.add_records.Statement.{statement}
 use Rattle.sweep.proofs.input.add_records.Tie as tie
 
@@ -12,6 +14,7 @@ abbrev Inv-loop : tie.InvT-loop
 Inv-loop table₀ vertices₀ triangles₀ bytes₀ words₀ count₀ table vertices triangles bytes words count =
     (6172 ≡ length bytes) × (1543 ≡ length words)
     × (length table ≡ length table₀) × (length vertices ≡ length vertices₀) × (length triangles ≡ length triangles₀)
+    × Fed count (buffers table₀ vertices₀ triangles₀) (buffers table vertices triangles)
 
 abbrev μ-loop : tie.MeasureT-loop
 μ-loop table₀ vertices₀ triangles₀ bytes₀ words₀ count₀ table vertices triangles bytes words count = 18446744073709551615 - count
@@ -23,7 +26,7 @@ slice-aggregate-words : tie.Need-slice-aggregate-words Inv-loop μ-loop
 slice-aggregate-words c = search needs
 
 loop-holds : tie.Need-loop-holds Inv-loop μ-loop
-loop-holds c = omega arith
+loop-holds c = (refl, refl, refl, refl, refl, fed-none _)
 
 read-record-requires : tie.Need-read-record-requires Inv-loop μ-loop
 read-record-requires c κs = omega arith
@@ -38,7 +41,7 @@ same-length-3 : tie.Need-same-length-3 Inv-loop μ-loop
 same-length-3 c = search needs
 
 returns : tie.Need-returns Inv-loop μ-loop
-returns c = search needs
+returns c = c .before .before .before .before .before .before .before .before .before .before .before .loop .inv .5
 
 slice-reshare-prefix-add-record : tie.Need-slice-reshare-prefix-add-record Inv-loop μ-loop
 slice-reshare-prefix-add-record c = omega arith
@@ -49,7 +52,7 @@ slice-aggregate-add-record c = simp length-take (omega arith)
 add-record-requires : tie.Need-add-record-requires Inv-loop μ-loop
 add-record-requires c κs =
     let read = c .before .before .before .before .before .before .before .before .before .read-record .ensures in
-    length-take-le _ _ (read .0) ∙ read .1
+    read-whole _ _ (read .0) (read .1)
 
 add-count : tie.Need-add-count Inv-loop μ-loop
 add-count c = omega arith
@@ -58,7 +61,12 @@ loop-less : tie.Need-loop-less Inv-loop μ-loop
 loop-less c = omega arith
 
 loop-again : tie.Need-loop-again Inv-loop μ-loop
-loop-again c = omega arith
+loop-again c =
+    let added = c .before .before .before .before .before .before in
+    let read = added .before .before .before .before .before .before .before .before .before .before in
+    let l = read .before .before .before .before .loop in
+    let fed = fed-next _ (l .inv .5) (read-whole _ _ (read .read-record .ensures .0) (read .read-record .ensures .1)) (added .add-record .ensures) in
+    (omega arith, omega arith, omega arith, omega arith, omega arith, fed)
 
 same-length-4 : tie.Need-same-length-4 Inv-loop μ-loop
 same-length-4 c = search needs
@@ -70,7 +78,7 @@ same-length-6 : tie.Need-same-length-6 Inv-loop μ-loop
 same-length-6 c = search needs
 
 returns-2 : tie.Need-returns-2 Inv-loop μ-loop
-returns-2 c = search needs
+returns-2 c = c .before .before .before .loop .inv .5
 
 pub add-records-spec : {M : Type 1} → statement M
 add-records-spec =

@@ -1,0 +1,29 @@
+-- A record that was read and added, behind the others. Assumes nothing.
+use mathlib.Core.Path.{_≡_, refl, sym, ap, _∙_}
+use mathlib.Core.List.{List}
+use Prim.Native.Nat.{ℕ, _+_, _≤_}
+use lib.ListN.{length, take}
+use lib.Seq.{length-take-le}
+use Rattle.set_table.specs.Buffers.{Buffers}
+use Rattle.ledger.specs.Calls.{Called, additions}
+use Rattle.records.specs.Records.{recordWords, firstAddition}
+use Rattle.records.proofs.Additions.{additions-append}
+use Rattle.sweep.specs.Input.{none, then, additionsFrom, Fed}
+
+-- the front of the words that were read, which is as long as the record there, is that record
+pub read-whole : (end : ℕ) (words : List ℕ) → end ≤ length words → end ≡ recordWords (take end words)
+    → length (take end words) ≡ recordWords (take end words)
+read-whole end words held is = length-take-le end words held ∙ is
+
+pub fed-none : (s : Buffers) → Fed 0 s s
+fed-none s = record { records = none; counted = refl; whole = tt; left = refl }
+
+pub fed-next : (words : List ℕ) {count : ℕ} {before s s′ : Buffers} → Fed count before s → length words ≡ recordWords words
+    → s′ ≡ additions (firstAddition words) s .left → Fed (count + 1) before s′
+fed-next words {before = before} fed is added = record {
+  records = then (fed .records) words;
+  counted = ap (λ (n : ℕ). n + 1) (fed .counted);
+  whole = (fed .whole, is);
+  left = added ∙ ap (λ (s : Buffers). additions (firstAddition words) s .left) (fed .left)
+      ∙ sym (ap (λ (r : Called). r .left) (additions-append (additionsFrom (fed .records)) (firstAddition words) before));
+}
