@@ -49,7 +49,7 @@ abbrev firstIf : List ℕ → Bool → List Addition
 firstIf words there = cond there (additionOf (describedIn words) (curveIn words)) []
 
 abbrev allIf : List ℕ → List Addition → Bool → List Addition
-allIf words others there = cond there (additionOf (describedIn words) (curveIn words) ++ others) []
+allIf words others there = cond there (firstAddition words ++ others) []
 
 pub record-length : (words : List ℕ) → beginsWithRecord words ≡ true → recordWords words ≡ headWords + 3 * verticesNamed words
 record-length words h = ap (wordsIf words) h
@@ -116,7 +116,6 @@ additions-next words b =
     enough (length words) (suc (length words)) words (omega arith) (omega arith)
     ∙ ap (following words) (enough (length words) (length rest) rest shorter (omega arith))
     ∙ ap (allIf words others) b
-    ∙ ap (λ (list : List Addition). list ++ others) (sym (first-addition words b))
 
 -- no further record
 pub additions-none : (words : List ℕ) → beginsWithRecord words ≡ false → additionsIn words ≡ []

@@ -60,7 +60,7 @@ firstAddition words = cond (beginsWithRecord words) (additionOf (describedIn wor
 abbrev pub additionsOf : ℕ → List ℕ → List Addition
 additionsOf zero words = []
 additionsOf (suc n) words =
-    cond (beginsWithRecord words) (additionOf (describedIn words) (curveIn words) ++ additionsOf n (drop (recordWords words) words)) []
+    cond (beginsWithRecord words) (firstAddition words ++ additionsOf n (drop (recordWords words) words)) []
 
 -- of all: there are no more records than words
 unfoldable pub additionsIn : List ℕ → List Addition

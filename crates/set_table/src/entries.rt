@@ -4,7 +4,6 @@ ghost use lib.ListN.{length};
 ghost use Rattle.set_table.specs.Room.{mostBodies, tableWords};
 ghost use Rattle.set_table.specs.Table.{entryIn};
 
-// How many words an entry has.
 pub const ENTRY_WORDS: usize = 6;
 
 // The most bodies that a set may have.

@@ -9,7 +9,6 @@ use crate::room::is_total_permitted;
 use crate::totals::Reading;
 use crate::totals::Totals;
 
-// The last kind's number.
 const LAST_KIND: u32 = 5;
 
 // Whether an entry can stand behind bodies of so many vertices and triangles.

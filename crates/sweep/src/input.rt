@@ -11,10 +11,10 @@ use records::add_first;
 use records::record_length;
 use records::record_words;
 
-// The words, and the bytes, of the longest record.
-const WORDS: usize = 1543;
+// The words, and the bytes, of the longest record: a head and 512 vertices.
+const WORDS: usize = 7 + 3 * 512;
 
-const BYTES: usize = 6172;
+const BYTES: usize = 4 * WORDS;
 
 // The next record of standard input to the front of `words`, by way of `bytes`, and its length; 0 where the input ends before it does, or it
 // has too many vertices. What it hands on is one record, whole and alone.

@@ -6,8 +6,8 @@ mod output;
 use crate::input::collect;
 use crate::output::write_file;
 
-// 1 + 6 * 64: a table of the most bodies.
-const TABLE: usize = 385;
+// A table of the most bodies.
+const TABLE: usize = 1 + 6 * 64;
 
 // The elements of the vertex buffer, and of the triangle buffer.
 const ELEMENTS: usize = 12288;

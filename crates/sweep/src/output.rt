@@ -9,9 +9,9 @@ use set_file::FileWord;
 use set_file::file_word;
 
 // The words, and the bytes, of the longest file: its head, 64 entries and both buffers full.
-const WORDS: usize = 24964;
+const WORDS: usize = 4 + 6 * 64 + 12288 + 12288;
 
-const BYTES: usize = 99856;
+const BYTES: usize = 4 * WORDS;
 
 // The file's words to the front of `words`, as many as it has room for, and how many they are.
 fn fill_file(table: &[u32], vertices: &[f32], triangles: &[u32], words: &mut [u32]) -> usize
