@@ -1,2 +1,3 @@
 pub mod FirstOf
 pub mod Shapes
+pub mod KindNumbers

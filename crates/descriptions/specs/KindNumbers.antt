@@ -1,13 +1,30 @@
--- "kind (1 ribbon, 2 tube, 3 capsule, 4 torus, 5 closed cylinder)" (document 01, 'The shared set'), and what a record of that paragraph
--- describes: "kind, n, L (layers S for kind 5), centre flag .., size bits, length bits .. fields a kind lacks are ignored". Definitions only.
+-- Kinds by their numbers, as document 01, 'The shared set', has them in records and in entries. Definitions only.
 use mathlib.Core.Bool.{Bool, cond}
 use Prim.Native.Nat.{ℕ}
 use lib.Dec.{eqb}
 use lib.Ieee.{Float}
+use Rattle.descriptions.specs.declared.description.Description.{Description}
 use Rattle.descriptions.specs.declared.description.Description.the-variants.{Ribbon, Tube, Capsule, Torus, ClosedCylinder}
 use Rattle.descriptions.specs.declared.kind.Described.{Described}
 use Rattle.descriptions.specs.declared.kind.Described.the-variants.{Known, Unknown}
 
+-- "kind (1 ribbon, 2 tube, 3 capsule, 4 torus, 5 closed cylinder)"
+abbrev pub kindNumber : Description → ℕ
+kindNumber (Ribbon w) = 1
+kindNumber (Tube n r) = 2
+kindNumber (Capsule n L r) = 3
+kindNumber (Torus n r) = 4
+kindNumber (ClosedCylinder n S centred r l) = 5
+
+-- "n (0 for a ribbon)"
+abbrev pub divisionsOf : Description → ℕ
+divisionsOf (Ribbon w) = 0
+divisionsOf (Tube n r) = n
+divisionsOf (Capsule n L r) = n
+divisionsOf (Torus n r) = n
+divisionsOf (ClosedCylinder n S centred r l) = n
+
+-- What a record describes: "kind, n, L (layers S for kind 5), centre flag .., size bits, length bits .. fields a kind lacks are ignored".
 unfoldable pub describedOf : ℕ → ℕ → ℕ → Bool → Float → Float → Described
 describedOf kind n L centred size length =
     cond (eqb kind 1) (Known (Ribbon size))

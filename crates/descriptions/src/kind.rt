@@ -1,5 +1,5 @@
 ghost use mathlib.Core.Path.{_≡_};
-ghost use Rattle.descriptions.specs.KindNumbers.{describedOf};
+ghost use Rattle.descriptions.specs.KindNumbers.{describedOf, kindNumber, divisionsOf};
 use crate::description::Description;
 
 // A description by its kind's number, or none: there are five kinds.
@@ -43,5 +43,33 @@ pub fn of_kind(
             length,
         }),
         _ => Described::Unknown,
+    }
+}
+
+impl Description {
+    // The number of its kind, as `of_kind` takes it.
+    pub fn kind_number(self) -> u32
+        ensures { λ r. ⌜ r ≡ kindNumber self ⌝ }
+    {
+        match self {
+            Description::Ribbon { .. } => 1,
+            Description::Tube { .. } => 2,
+            Description::Capsule { .. } => 3,
+            Description::Torus { .. } => 4,
+            Description::ClosedCylinder { .. } => 5,
+        }
+    }
+
+    // Its divisions round, as an entry has them: a ribbon has 0.
+    pub fn divisions(self) -> u32
+        ensures { λ r. ⌜ r ≡ divisionsOf self ⌝ }
+    {
+        match self {
+            Description::Ribbon { .. } => 0,
+            Description::Tube { divisions, .. } => divisions,
+            Description::Capsule { divisions, .. } => divisions,
+            Description::Torus { divisions, .. } => divisions,
+            Description::ClosedCylinder { divisions, .. } => divisions,
+        }
     }
 }

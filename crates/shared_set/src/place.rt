@@ -11,7 +11,6 @@ ghost use Rattle.descriptions.specs.Refusals.{ShapePermitted};
 ghost use Rattle.bodies.specs.Bodies.{verticesOf};
 ghost use Rattle.set_table.specs.Room.{Fits};
 ghost use Rattle.set_table.specs.Buffers.{buffers, lengthsOf};
-ghost use Rattle.shared_set.specs.Bodies.{kindNumber, divisionsOf};
 ghost use Rattle.shared_set.specs.Answers.{outcomeAnswer};
 ghost use Rattle.shared_set.specs.Set.{after, placedOf};
 use crate::answers::Outcome;
@@ -20,30 +19,6 @@ use descriptions::Description;
 use kinds::Topology;
 use set_table::Entry;
 use set_table::Totals;
-
-fn kind_number(description: Description) -> u32
-    ensures { λ r. ⌜ r ≡ kindNumber description ⌝ }
-{
-    match description {
-        Description::Ribbon { .. } => 1,
-        Description::Tube { .. } => 2,
-        Description::Capsule { .. } => 3,
-        Description::Torus { .. } => 4,
-        Description::ClosedCylinder { .. } => 5,
-    }
-}
-
-fn divisions_of(description: Description) -> u32
-    ensures { λ r. ⌜ r ≡ divisionsOf description ⌝ }
-{
-    match description {
-        Description::Ribbon { .. } => 0,
-        Description::Tube { divisions, .. } => divisions,
-        Description::Capsule { divisions, .. } => divisions,
-        Description::Torus { divisions, .. } => divisions,
-        Description::ClosedCylinder { divisions, .. } => divisions,
-    }
-}
 
 // Draws the body's vertices into its own stretch of the vertex buffer, lent from three times its first vertex on, and answers whether
 // all are finite. Where one is not, 23, the stretch is left at +0.
@@ -97,8 +72,8 @@ pub(crate) fn place(
     let at = 3 * totals.triangles;
     body.write_triangles(first as u32, &mut triangles[at..]);
     let entry = Entry {
-        kind: kind_number(description),
-        divisions: divisions_of(description),
+        kind: description.kind_number(),
+        divisions: description.divisions(),
         vertex: first as u32,
         vertices: body.vertex_count() as u32,
         triangle: totals.triangles as u32,

@@ -106,16 +106,16 @@ written t =
     (t .write-triangles .ensures .1 ∙ (λ j. placed (whole t j) (list s (s .pre .1 .1 .0 j)) (lent s)))
 
 -- the entry that is written is the body's
-abbrev counting : tie.After-triangle-count → tie.After-divisions-of
+abbrev counting : tie.After-triangle-count → tie.After-divisions
 counting c = c .before .before .before
 
-abbrev entering : tie.After-divisions-of → tie.After-write-triangles
+abbrev entering : tie.After-divisions → tie.After-write-triangles
 entering d = d .before .before .before .before
 
 entry : (c : tie.After-triangle-count) → let s = begun (entering (counting c)) in
     let e : Entry = record {
       kind = counting c .before .kind-number .result;
-      divisions = counting c .divisions-of .result;
+      divisions = counting c .divisions .result;
       vertex = s .args .totals .vertices;
       vertices = c .before .before .vertex-count .result;
       triangle = s .args .totals .triangles;
@@ -130,7 +130,7 @@ entry c =
     let triangles = has-triangles ∙ sym (triangles-counted (a .description) (now (a .curve)) (s .pre .1 .0)) in
     (λ j. record {
       kind = counting c .before .kind-number .ensures j;
-      divisions = counting c .divisions-of .ensures j;
+      divisions = counting c .divisions .ensures j;
       vertex = a .totals .vertices;
       vertices = vertices j;
       triangle = a .totals .triangles;
@@ -174,8 +174,8 @@ write-triangles-requires c κs = search needs
 kind-number-requires : tie.Need-kind-number-requires
 kind-number-requires c κs = search needs
 
-divisions-of-requires : tie.Need-divisions-of-requires
-divisions-of-requires c κs = search needs
+divisions-requires : tie.Need-divisions-requires
+divisions-requires c κs = search needs
 
 cast-t22 : tie.Need-cast-t22
 cast-t22 c = omega (arith, fit (begun (entering c)))
@@ -231,7 +231,7 @@ place-spec =
     part-write-triangles-end
     write-triangles-requires
     kind-number-requires
-    divisions-of-requires
+    divisions-requires
     cast-t22
     vertex-count-requires
     cast-t24
