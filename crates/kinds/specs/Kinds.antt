@@ -2,8 +2,9 @@
 -- and 'Refused, and through whom'. Definitions only.
 use mathlib.Core.Bool.{Bool, _&&_}
 use mathlib.Core.List.{List}
-use Prim.Native.Nat.{ℕ, _+_, _-_, _*_, _^_}
+use Prim.Native.Nat.{ℕ, _+_, _-_, _*_}
 use lib.Dec.{leb}
+use Rattle.surface.specs.Limits.{mostInAll}
 use Rattle.surface.specs.Triangles.{Triangle}
 use Rattle.surface.specs.declared.grid.Chain.the-variants as Chain
 use Rattle.surface.specs.declared.quads.Split.the-variants as Split
@@ -53,7 +54,7 @@ trianglesOf (ClosedCylinder k) = closedTriangles (k .divisions) (k .layers)
 -- Whether a body's triangles can be written, its vertices numbered from `first` on, into a buffer of `room` numbers: it is permitted, the
 -- vertices do not "take their total above 2^28" (of 3), and the triangles do not "exceed their buffer" (of 4). The rest of 3 and 4 is add's.
 unfoldable pub writable : Topology → ℕ → ℕ → Bool
-writable t first room = permitted t && (leb (first + vertexCount t) (2 ^ 28) && leb (3 * triangleCount t) room)
+writable t first room = permitted t && (leb (first + vertexCount t) mostInAll && leb (3 * triangleCount t) room)
 
 -- The grid of quads, alone or capped, whose list the body's is.
 abbrev pub surfaceOf : Topology → Surface

@@ -1,6 +1,7 @@
 ghost use mathlib.Core.Path.{_≡_};
-ghost use Prim.Native.Nat.{_+_, _*_, _≤_, _<_, _^_};
+ghost use Prim.Native.Nat.{_+_, _*_, _≤_, _<_};
 ghost use lib.ListN.{length, getD};
+ghost use Rattle.surface.specs.Limits.{mostInAll};
 ghost use Rattle.set_table.specs.Room.{mostBodies, tableWords};
 ghost use Rattle.set_table.specs.Buffers.{buffers};
 ghost use Rattle.set_file.specs.Answers.{wordAnswer};
@@ -21,8 +22,8 @@ const FILE_HEAD: usize = 4;
 // Word `place` of the file's head.
 fn head_word(totals: Totals, place: usize) -> u32
     requires { ⌜ place < 4 ⌝ }
-    requires { ⌜ totals .vertices ≤ 2 ^ 28 ⌝ }
-    requires { ⌜ totals .triangles ≤ 2 ^ 28 ⌝ }
+    requires { ⌜ totals .vertices ≤ mostInAll ⌝ }
+    requires { ⌜ totals .triangles ≤ mostInAll ⌝ }
     ensures { λ r. ⌜ r ≡ getD (fileHead totals) place 0 ⌝ }
 {
     match place {

@@ -2,8 +2,9 @@
 -- totals and the lengths of the buffers. No table is read here: the ledger asks the same. Definitions only.
 use mathlib.Core.Bool.{Bool, not, _&&_}
 use mathlib.Core.List.{List, [], _∷_}
-use Prim.Native.Nat.{ℕ, _+_, _*_, _^_, _≤_}
+use Prim.Native.Nat.{ℕ, _+_, _*_, _≤_}
 use lib.Dec.{eqb, leb}
+use Rattle.surface.specs.Limits.{mostInAll}
 use Rattle.descriptions.specs.Answers.{Test, AllPermitted}
 use Rattle.descriptions.specs.Refusals.{test}
 use Rattle.set_table.specs.declared.totals.Totals.{Totals}
@@ -31,7 +32,7 @@ lengths table vertices triangles = record { table = table; vertices = vertices; 
 
 -- 1, 3 and 4: not "a total above 2^28 or, times 3, above a buffer's length"
 unfoldable pub totalPermitted : ℕ → ℕ → Bool
-totalPermitted total room = leb total (2 ^ 28) && leb (3 * total) room
+totalPermitted total room = leb total mostInAll && leb (3 * total) room
 
 -- 2: not "B is 64, or 7 + 6B is above the table's length"
 unfoldable pub entryPermitted : ℕ → ℕ → Bool

@@ -9,9 +9,7 @@ use crate::entries::ENTRY_WORDS;
 use crate::entries::MOST_BODIES;
 use crate::totals::Totals;
 use kinds::Topology;
-
-// The most vertices, and the most triangles, that a set may have.
-const MOST_IN_ALL: usize = 1 << 28;
+use surface::MOST_IN_ALL;
 
 // Whether so many vertices or triangles may stand in a buffer of so many elements.
 pub(crate) fn is_total_permitted(total: usize, room: usize) -> bool

@@ -1,10 +1,11 @@
 ghost use mathlib.Core.Path.{_≡_};
 ghost use mathlib.Core.Bool.{cond};
-ghost use Prim.Native.Nat.{_+_, _*_, _/_, _%_, _≤_, _^_};
+ghost use Prim.Native.Nat.{_+_, _*_, _/_, _%_, _≤_};
 ghost use lib.ListN.{length};
 ghost use Rattle.float32.specs.Scan.{allFinite};
 ghost use Rattle.float32.specs.Zeros.{zeros};
 ghost use Rattle.laws.specs.Overwrite.{overwrite};
+ghost use Rattle.surface.specs.Limits.{mostInAll};
 ghost use Rattle.kinds.specs.Kinds.{vertexCount, triangleCount};
 ghost use Rattle.descriptions.specs.Descriptions.{topologyOf};
 ghost use Rattle.descriptions.specs.Refusals.{ShapePermitted};
@@ -32,7 +33,7 @@ fn write_stretch(
     requires { ⌜ length (now curve) % 3 ≡ 0 ⌝ }
     requires { ⌜ ShapePermitted description (length (now curve) / 3) ⌝ }
     requires { ⌜ body ≡ topologyOf description (length (now curve) / 3) ⌝ }
-    requires { ⌜ first + vertexCount body ≤ 2 ^ 28 ⌝ }
+    requires { ⌜ first + vertexCount body ≤ mostInAll ⌝ }
     requires { ⌜ 3 * (first + vertexCount body) ≤ length (now vertices) ⌝ }
     ensures { λ r. ⌜ r ≡ allFinite (verticesOf description (now (curve .entry))) ⌝ }
     ensures { λ r. let drawn = verticesOf description (now (curve .entry)) in

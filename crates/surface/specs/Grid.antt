@@ -1,8 +1,9 @@
 -- A grid of quads: the one device behind the lists of document 01, 'Triangle lists'. What is not quoted stands for the words that all kinds
 -- share there: rings, quads between ring g and ring g + 1, vertex i of ring g. Definitions only.
 use mathlib.Core.List.{List}
-use Prim.Native.Nat.{ℕ, _+_, _*_, _%_, _^_, _≤_}
+use Prim.Native.Nat.{ℕ, _+_, _*_, _%_, _≤_}
 use Rattle.laws.specs.Blocks.{blocks}
+use Rattle.surface.specs.Limits.{mostInAll}
 use Rattle.surface.specs.Triangles.{Triangle}
 use Rattle.surface.specs.Quads.{quadOf}
 use Rattle.surface.specs.declared.quads.Split.{Split}
@@ -30,8 +31,8 @@ gridTriangles split along m round n base =
     let w = pointsOf round n in
     blocks m (λ g. rowTriangles split round n (base + g * w) (base + afterOf along m g * w))
 
--- What a row's writer asks: its vertices are numbered below 2 ^ 28, and its place lies within the buffer.
+-- What a row's writer asks: its vertices are numbered below `mostInAll`, and its place lies within the buffer.
 pub record RowFits (round : Chain) (n low high at room : ℕ) : Type 0 where
-  pub low-numbers : low + pointsOf round n ≤ 2 ^ 28
-  pub high-numbers : high + pointsOf round n ≤ 2 ^ 28
+  pub low-numbers : low + pointsOf round n ≤ mostInAll
+  pub high-numbers : high + pointsOf round n ≤ mostInAll
   pub within : at + n * 6 ≤ room

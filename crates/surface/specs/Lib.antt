@@ -1,3 +1,4 @@
+pub mod Limits
 pub mod Triangles
 pub mod Quads
 pub mod Grid

@@ -1,8 +1,9 @@
 -- A whole surface: a grid of quads, alone or between two caps, as document 01, 'Triangle lists', has them kind by kind. Definitions only.
 use mathlib.Core.Bool.{Bool, true, false, cond, _&&_}
 use mathlib.Core.List.{List, _++_}
-use Prim.Native.Nat.{ℕ, _+_, _*_, _^_, _≤_}
+use Prim.Native.Nat.{ℕ, _+_, _*_, _≤_}
 use lib.Dec.{leb}
+use Rattle.surface.specs.Limits.{mostInAll}
 use Rattle.surface.specs.Triangles.{Triangle}
 use Rattle.surface.specs.Grid.{pointsOf, gridTriangles}
 use Rattle.surface.specs.Caps.{capTriangles}
@@ -55,9 +56,9 @@ surfaceTriangleCount s = 2 * (s .rows * s .columns) + cond (isCapped (s .along))
 -- Whether a surface can be written: its vertices do not "take their total above 2^28", and its triangles do not "exceed their buffer"
 -- ('Refused, and through whom', of 3 and of 4).
 unfoldable pub fits : Surface → ℕ → ℕ → Bool
-fits s first room = leb (first + surfaceVertexCount s) (2 ^ 28) && leb (3 * surfaceTriangleCount s) room
+fits s first room = leb (first + surfaceVertexCount s) mostInAll && leb (3 * surfaceTriangleCount s) room
 
 -- What the grid's writer asks.
 pub record GridFits (s : Surface) (base at room : ℕ) : Type 0 where
-  pub numbers : base + gridSize s ≤ 2 ^ 28
+  pub numbers : base + gridSize s ≤ mostInAll
   pub within : at + s .rows * s .columns * 6 ≤ room

@@ -10,4 +10,5 @@ pub use grid::Chain;
 pub use quads::Split;
 pub use quads::quad;
 pub use whole::Along;
+pub use whole::MOST_IN_ALL;
 pub use whole::Surface;

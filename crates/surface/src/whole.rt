@@ -11,6 +11,9 @@ use crate::grid::points;
 use crate::grid::write_grid;
 use crate::quads::Split;
 
+// The most vertices, and the most triangles, that a set may have: `mostInAll` in specs/Limits.antt.
+pub const MOST_IN_ALL: usize = 1 << 28;
+
 // How a grid of quads ends along the curve: in two open rims, in itself, or in two caps.
 pub enum Along {
     Open,
@@ -90,11 +93,11 @@ impl Surface {
         grid
     }
 
-    // Whether every vertex is numbered below 2^28 and the triangles have room.
+    // Whether every vertex is numbered below `MOST_IN_ALL` and the triangles have room.
     fn is_placeable(self, first: u32, room: usize) -> bool
         ensures { λ r. ⌜ r ≡ fits self first room ⌝ }
     {
-        first as u64 + self.vertex_count() <= 0x1000_0000
+        first as u64 + self.vertex_count() <= MOST_IN_ALL as u64
             && 3 * self.triangle_count() <= room as u64
     }
 
