@@ -6,7 +6,8 @@ use native.Mathlib.Omega.{arith}
 use borrow.Author.Tests.{eqb-true}
 use lib.Dec.{eqb}
 use lib.Ieee.{Float}
-use Rattle.descriptions.specs.KindNumbers.{describedOf, kindNumber}
+use Rattle.kinds.specs.Limits.{between}
+use Rattle.descriptions.specs.KindNumbers.{kindNumber, lastKind, describedOf}
 use Rattle.descriptions.specs.declared.description.Description.{Description}
 use Rattle.descriptions.specs.declared.description.Description.the-variants.{Ribbon, Tube, Capsule, Torus, ClosedCylinder}
 use Rattle.descriptions.specs.declared.kind.Described.{Described}
@@ -29,3 +30,11 @@ kind-told kind n L centred size length =
     (told-by kind 4 (eqb kind 4) (Torus n size) _ refl refl
     (told-by kind 5 (eqb kind 5) (ClosedCylinder n L centred size length) Unknown refl refl
     (λ h. let z : _≡_ {A = ℕ} 0 1 = cc in absurd (omega arith))))))
+
+-- each is one that a sound entry may have
+pub kind-between : (d : Description) → between 1 lastKind (kindNumber d) ≡ true
+kind-between (Ribbon w) = refl
+kind-between (Tube n r) = refl
+kind-between (Capsule n L r) = refl
+kind-between (Torus n r) = refl
+kind-between (ClosedCylinder n S centred r l) = refl

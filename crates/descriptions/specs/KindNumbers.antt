@@ -16,6 +16,10 @@ kindNumber (Capsule n L r) = 3
 kindNumber (Torus n r) = 4
 kindNumber (ClosedCylinder n S centred r l) = 5
 
+-- the last of them: no "kind outside 1 to 5" ('Refused, and through whom', of 1)
+abbrev pub lastKind : ℕ
+lastKind = 5
+
 -- "n (0 for a ribbon)"
 abbrev pub divisionsOf : Description → ℕ
 divisionsOf (Ribbon w) = 0

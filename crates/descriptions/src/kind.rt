@@ -2,6 +2,9 @@ ghost use mathlib.Core.Path.{_≡_};
 ghost use Rattle.descriptions.specs.KindNumbers.{describedOf, kindNumber, divisionsOf};
 use crate::description::Description;
 
+// The kinds are numbered from 1 to this.
+pub const LAST_KIND: u32 = 5;
+
 // A description by its kind's number, or none: there are five kinds.
 pub enum Described {
     Known(Description),

@@ -11,4 +11,5 @@ pub use answers::Refusal;
 pub use answers::Verdict;
 pub use description::Description;
 pub use kind::Described;
+pub use kind::LAST_KIND;
 pub use kind::of_kind;

@@ -15,15 +15,15 @@ use Rattle.curve.specs.Segments.{verticesIn}
 use Rattle.descriptions.specs.Answers.{Test, AllPermitted}
 use Rattle.descriptions.specs.Descriptions.{topologyOf}
 use Rattle.descriptions.specs.Refusals.{ShapePermitted, checkedTests}
+use Rattle.descriptions.specs.KindNumbers.{lastKind}
 use Rattle.descriptions.specs.declared.description.Description.{Description}
 use Rattle.descriptions.specs.declared.description.Description.the-variants.{Capsule}
 use Rattle.descriptions.proofs.Shapes.{shape-permitted, shape-bounds, checked-shape}
+use Rattle.descriptions.proofs.KindNumbers.{kind-between}
 use Rattle.bodies.specs.Bodies.{verticesOf}
 use Rattle.bodies.proofs.Lengths.{length-vertices}
-use Rattle.set_table.specs.Table.{lastKind}
 use Rattle.shared_set.specs.Bodies.{Body, bodyAlone}
 use Rattle.shared_set.proofs.Counts.{vertices-counted}
-use Rattle.shared_set.proofs.KindNumbers.{kind-between}
 use Rattle.ledger.specs.Demand3.{Sound}
 
 -- tests that are passed one behind the other

@@ -10,6 +10,7 @@ use Rattle.laws.specs.Sums.{sumBelow}
 use Rattle.kinds.specs.Limits.{between}
 use Rattle.descriptions.specs.Answers.{Answer, firstOf}
 use Rattle.descriptions.specs.Refusals.{test}
+use Rattle.descriptions.specs.KindNumbers.{lastKind}
 use Rattle.set_table.specs.Room.{mostBodies, tableWords, totalPermitted}
 use Rattle.set_table.specs.declared.totals.Totals.{Totals}
 use Rattle.set_table.specs.declared.entries.Entry.{Entry}
@@ -38,10 +39,6 @@ verticesBefore T j = sumBelow j (λ i. entryIn T i .vertices)
 
 abbrev pub trianglesBefore : List ℕ → ℕ → ℕ
 trianglesBefore T j = sumBelow j (λ i. entryIn T i .triangles)
-
--- the last kind's number
-abbrev pub lastKind : ℕ
-lastKind = 5
 
 -- not "a kind outside 1 to 5; a first vertex or triangle other than the sum before it", these being v and t
 unfoldable pub entrySound : Entry → ℕ → ℕ → Bool

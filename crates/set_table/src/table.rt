@@ -8,8 +8,7 @@ use crate::entries::read_entry;
 use crate::room::is_total_permitted;
 use crate::totals::Reading;
 use crate::totals::Totals;
-
-const LAST_KIND: u32 = 5;
+use descriptions::LAST_KIND;
 
 // Whether an entry can stand behind bodies of so many vertices and triangles.
 fn is_entry_sound(entry: Entry, vertices: usize, triangles: usize) -> bool

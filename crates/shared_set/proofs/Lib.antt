@@ -1,3 +1,2 @@
 pub mod Counts
 mod Additions
-pub mod KindNumbers

@@ -7,7 +7,8 @@ use borrow.Author.Needs.{needs}
 use lib.Dec.{eqb}
 use Rattle.kinds.specs.Limits.{between}
 use Rattle.kinds.proofs.Answers.{passed, failed}
-use Rattle.set_table.specs.Table.{lastKind, entrySound}
+use Rattle.descriptions.specs.KindNumbers.{lastKind}
+use Rattle.set_table.specs.Table.{entrySound}
 use Rattle.set_table.proofs.table.is_entry_sound.Statement.{statement}
 use Rattle.set_table.proofs.table.is_entry_sound.Tie as tie
 
