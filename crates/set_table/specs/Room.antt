@@ -9,7 +9,7 @@ use Rattle.descriptions.specs.Answers.{Test, AllPermitted}
 use Rattle.descriptions.specs.Refusals.{test}
 use Rattle.set_table.specs.declared.totals.Totals.{Totals}
 
--- "up to 64 bodies in one shared set"
+-- "B above 64" (1), "B is 64" (2): the most bodies that a set may have
 abbrev pub mostBodies : ℕ
 mostBodies = 64
 

@@ -1,6 +1,6 @@
 -- What is made of standard input: "reads records of such words from standard input .. skips refused records and kinds outside 1 to 5, stops at a
--- short record or a curve count over 512" (document 01, 'The shared set'). Which records the input holds no contract can say; that the bodies of
--- whole records are added, in the order in which they were read, and nothing else is done to the buffers, it can. Definitions only.
+-- short record or a curve count over 512" (document 01, 'The shared set'). Which records the input holds no contract can say; that the buffers
+-- are what the additions of whole records leave, as many as were counted, and that nothing else is done to them, it can. Definitions only.
 use mathlib.Core.Path.{_≡_}
 use mathlib.Core.List.{List, [], _++_}
 use Prim.Native.Nat.{ℕ, _+_}
@@ -10,7 +10,7 @@ use Rattle.ledger.specs.Ledger.{Addition}
 use Rattle.ledger.specs.Calls.{additions}
 use Rattle.records.specs.Records.{recordWords, firstAddition}
 
--- the records that were read, each by its words; the list grows at its end
+-- a list of records, each by its words; it grows at its end
 pub data Records : Type 0 where
   none : Records
   then : Records → List ℕ → Records

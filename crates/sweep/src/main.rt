@@ -1,5 +1,5 @@
 // Reads records from standard input, adds their bodies to a set, and writes the set's file to standard output. A refused record, and one of
-// no kind, is skipped; a short one, or one of too many vertices, ends the input. Where standard output fails or is closed it ends quietly.
+// no kind, is skipped; a short one, or one of too many vertices, ends the input. Where standard output fails or is closed it ends.
 mod input;
 mod output;
 
