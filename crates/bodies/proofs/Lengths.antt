@@ -11,6 +11,7 @@ use Rattle.surface.specs.declared.grid.Chain.{Chain}
 use Rattle.surface.specs.declared.grid.Chain.the-variants.{Open, Closed}
 use Rattle.surface.specs.declared.caps.End.{End}
 use Rattle.surface.specs.declared.caps.End.the-variants.{Bottom, Top}
+use Rattle.vec3.specs.Points.{coordinates}
 use Rattle.vec3.specs.Turns.{turnOf}
 use Rattle.vec3.specs.declared.points.Point.{Point}
 use Rattle.vec3.specs.declared.turns.Direction.{Direction}
@@ -21,7 +22,7 @@ use Rattle.descriptions.specs.Refusals.{ShapePermitted}
 use Rattle.descriptions.specs.declared.description.Description.{Description}
 use Rattle.descriptions.specs.declared.description.Description.the-variants.{Ribbon, Tube, Capsule, Torus, ClosedCylinder}
 use Rattle.descriptions.proofs.Shapes.{shape-bounds}
-use Rattle.rings.specs.Vertices.{coordinates, ringOf, tubeVertex, torusVertex, capVertex, levelVertex}
+use Rattle.rings.specs.Vertices.{ringOf, tubeVertex, torusVertex, capVertex, levelVertex}
 use Rattle.rings.specs.declared.axes.Axes.{Axes}
 use Rattle.bodies.specs.Polyline3.{vtx2framex, axesOf, tubeVertices, ribbonPair, ribbonVertices}
 use Rattle.bodies.specs.Polyloop3 as polyloop3

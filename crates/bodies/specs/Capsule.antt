@@ -6,7 +6,8 @@ use lib.Ieee.{Float}
 use Rattle.laws.specs.Blocks.{blocks}
 use Rattle.surface.specs.declared.caps.End.{End}
 use Rattle.surface.specs.declared.caps.End.the-variants.{Bottom, Top}
-use Rattle.rings.specs.Vertices.{coordinates, ringOf, bottomPole, topPole, capVertex}
+use Rattle.vec3.specs.Points.{coordinates}
+use Rattle.rings.specs.Vertices.{ringOf, bottomPole, topPole, capVertex}
 use Rattle.rings.specs.declared.axes.Axes.{Axes}
 use Rattle.bodies.specs.Polyline3.{axesOf, tubeRing}
 

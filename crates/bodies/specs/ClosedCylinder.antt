@@ -5,8 +5,8 @@ use mathlib.Core.List.{List, _++_}
 use Prim.Native.Nat.{ℕ, _+_}
 use lib.Ieee.{Float, binary32, ofBits, neg}
 use Rattle.laws.specs.Blocks.{blocks}
-use Rattle.vec3.specs.Points.{plus, times}
-use Rattle.rings.specs.Vertices.{coordinates, ringOf, levelVertex, pole}
+use Rattle.vec3.specs.Points.{coordinates, plus, times}
+use Rattle.rings.specs.Vertices.{ringOf, levelVertex, pole}
 
 -- "low = −length·0.5 if centred, else +0". 3F000000 is 0.5.
 unfoldable pub lowOf : Bool → Float → Float

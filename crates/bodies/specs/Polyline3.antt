@@ -7,12 +7,12 @@ use lib.Dec.{eqb}
 use lib.Ieee.{Float}
 use Rattle.laws.specs.Blocks.{blocks}
 use Rattle.surface.specs.declared.grid.Chain.the-variants.{Open}
-use Rattle.vec3.specs.Points.{sumOf, scaled, crossOf, normalised}
+use Rattle.vec3.specs.Points.{coordinates, sumOf, scaled, crossOf, normalised}
 use Rattle.vec3.specs.declared.points.Point.{Point}
 use Rattle.vec3.specs.declared.frames.Frame.{Frame}
 use Rattle.curve.specs.Segments.{vertexOf, segmentDirection}
 use Rattle.curve.specs.Framex.{frameOf}
-use Rattle.rings.specs.Vertices.{coordinates, ringOf, tubeVertex}
+use Rattle.rings.specs.Vertices.{ringOf, tubeVertex}
 use Rattle.rings.specs.declared.axes.Axes.{Axes}
 
 -- "frame m a copy of frame m − 1"; the others are those of the segments

@@ -1,6 +1,6 @@
 -- The vertices of each kind (document 01, 'Frames and vertices'): of a swept one from the axes at its ring, whose origin is p, of a closed
 -- cylinder from its sizes. d = (C, Sn) is the direction of the vertex's place on its ring. Definitions only.
-use mathlib.Core.List.{List, [], _∷_}
+use mathlib.Core.List.{List}
 use Prim.Native.Nat.{ℕ, _-_, _*_}
 use lib.Ieee.{Float, binary32, ofBits, neg}
 use Rattle.laws.specs.Blocks.{blocks}
@@ -8,15 +8,11 @@ use Rattle.surface.specs.declared.caps.End.{End}
 use Rattle.surface.specs.declared.caps.End.the-variants.{Bottom, Top}
 use Rattle.surface.specs.declared.grid.Chain.{Chain}
 use Rattle.surface.specs.declared.grid.Chain.the-variants.{Open, Closed}
-use Rattle.vec3.specs.Points.{plus, times, over, sumOf, differenceOf, scaled}
+use Rattle.vec3.specs.Points.{plus, times, over, coordinates, sumOf, differenceOf, scaled}
 use Rattle.vec3.specs.Turns.{whole, turnOf}
 use Rattle.vec3.specs.declared.points.Point.{Point}
 use Rattle.vec3.specs.declared.turns.Direction.{Direction}
 use Rattle.rings.specs.declared.axes.Axes.{Axes}
-
--- "Vertices are three f32 each" ('The shared set').
-abbrev pub coordinates : Point → List Float
-coordinates p = p .x ∷ p .y ∷ p .z ∷ []
 
 -- A ring of n vertices: "(C, Sn) = turn(i, n)" for i from 0.
 abbrev pub ringOf : (Direction → Point) → ℕ → List Float

@@ -1,4 +1,5 @@
 -- Points: each operation rounded once, in the order written (document 01, 'Arithmetic'). Definitions only.
+use mathlib.Core.List.{List, [], _∷_}
 use Rattle.vec3.specs.declared.points.Point.{Point}
 use Rattle.float32.specs.Root.{rootOf}
 use lib.Ieee as Ieee
@@ -16,6 +17,10 @@ times = Ieee.mul binary32
 
 abbrev pub over : Float → Float → Float
 over = Ieee.div binary32
+
+-- "Vertices are three f32 each" ('The shared set').
+abbrev pub coordinates : Point → List Float
+coordinates p = p .x ∷ p .y ∷ p .z ∷ []
 
 -- component by component
 unfoldable pub sumOf : Point → Point → Point

@@ -4,8 +4,7 @@ use mathlib.Core.List.{_++_}
 use borrow.Author.Needs.{needs}
 use denote.Ref.{now}
 use Rattle.laws.specs.Overwrite.{overwrite, written-behind}
-use Rattle.vec3.specs.Points.{sumOf}
-use Rattle.rings.specs.Vertices.{coordinates}
+use Rattle.vec3.specs.Points.{coordinates, sumOf}
 use Rattle.bodies.proofs.polyline3.put_pair.Statement.{statement}
 use Rattle.bodies.proofs.polyline3.put_pair.Tie as tie
 

@@ -11,9 +11,9 @@ use Rattle.laws.specs.Overwrite.{overwrite, written-behind}
 use Rattle.surface.specs.declared.grid.Chain.the-variants.{Open}
 use Rattle.surface.specs.declared.caps.End.{End}
 use Rattle.surface.specs.declared.caps.End.the-variants.{Bottom, Top}
-use Rattle.vec3.specs.Points.{sumOf, differenceOf}
+use Rattle.vec3.specs.Points.{coordinates, sumOf, differenceOf}
 use Rattle.vec3.specs.declared.points.Point.{Point}
-use Rattle.rings.specs.Vertices.{coordinates, bottomPole, topPole}
+use Rattle.rings.specs.Vertices.{bottomPole, topPole}
 use Rattle.rings.specs.declared.axes.Axes.{Axes}
 use Rattle.bodies.specs.Polyline3.{axesOf}
 use Rattle.bodies.specs.Swept.{innerRings}

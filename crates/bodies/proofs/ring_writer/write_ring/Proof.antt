@@ -9,8 +9,8 @@ use lib.Ieee.{Float}
 use lib.ListN.{length}
 use Rattle.laws.specs.Overwrite.{overwrite, overwrite-none}
 use Rattle.laws.specs.Blocks.{blocks, one-more, all-written}
+use Rattle.vec3.specs.Points.{coordinates}
 use Rattle.vec3.specs.Turns.{turnOf}
-use Rattle.rings.specs.Vertices.{coordinates}
 use Rattle.rings.specs.Rings.{ringVertex}
 use Rattle.rings.specs.declared.ring.Ring.{Ring}
 use Rattle.bodies.specs.Directions.{directionAt}

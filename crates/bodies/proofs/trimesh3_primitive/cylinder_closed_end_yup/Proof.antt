@@ -4,8 +4,8 @@ use mathlib.Core.List.{_++_}
 use Prim.Native.Nat.{_+_}
 use denote.Ref.{now}
 use Rattle.laws.specs.Overwrite.{written-behind}
-use Rattle.vec3.specs.Points.{plus}
-use Rattle.rings.specs.Vertices.{coordinates, levelVertex, pole}
+use Rattle.vec3.specs.Points.{coordinates, plus}
+use Rattle.rings.specs.Vertices.{levelVertex, pole}
 use Rattle.bodies.specs.ClosedCylinder.{cylinderRings}
 use Rattle.bodies.proofs.Lengths.{length-rings}
 use borrow.Author.Needs.{needs}
