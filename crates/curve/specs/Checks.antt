@@ -8,7 +8,7 @@ use Rattle.laws.specs.Every.{every}
 use Rattle.surface.specs.declared.grid.Chain.{Chain}
 use Rattle.vec3.specs.Points.{plus, dotOf}
 use Rattle.vec3.specs.declared.points.Point.{Point}
-use Rattle.curve.specs.Segments.{segmentOf, segmentDirection}
+use Rattle.curve.specs.Segments.{verticesIn, vertexOf, segmentOf, segmentDirection}
 
 -- 12: "a segment .. whose difference dotted with itself is below 2^−40 or above 2^80 or not finite". 2B800000 is 2^−40, 67800000 is 2^80.
 unfoldable pub segmentRefused : Point → Bool
@@ -27,3 +27,7 @@ foldRefused u w = lt (plus (ofBits binary32 0x3F80_0000) (dotOf u w)) (ofBits bi
 -- "at vertices 1 to m − 1, for a torus 1 to N − 1": vertex k + 1, between segments k and k + 1, for every k + 1 below the number of segments
 unfoldable pub foldsPermitted : Chain → ℕ → List Float → Bool
 foldsPermitted chain count c = every (count - 1) (λ k. not (foldRefused (segmentDirection chain count c k) (segmentDirection chain count c (k + 1))))
+
+-- the same of a table of directions (`directionsOf`), as the law `folds-in-table` of the proofs says
+unfoldable pub noFoldIn : List Float → Bool
+noFoldIn d = every (verticesIn d - 1) (λ k. not (foldRefused (vertexOf d k) (vertexOf d (k + 1))))

@@ -6,20 +6,23 @@ use Prim.Native.Nat.{ℕ, _+_, _*_, _/_}
 use lib.Dec.{ltb}
 use lib.Ieee.{Float, nan}
 use lib.ListN.{length, getD}
+use Rattle.laws.specs.Blocks.{blocks}
 use Rattle.surface.specs.Grid.{afterOf}
 use Rattle.surface.specs.declared.grid.Chain.{Chain}
-use Rattle.vec3.specs.Points.{differenceOf, normalised}
+use Rattle.vec3.specs.Points.{coordinates, differenceOf, normalised}
 use Rattle.vec3.specs.declared.points.Point.{Point}
 
 -- how many whole vertices a curve has
 abbrev pub verticesIn : List Float → ℕ
 verticesIn c = length c / 3
 
+-- the point whose coordinates begin at place p
+abbrev pub pointAt : List Float → ℕ → Point
+pointAt c p = record { x = getD c p nan; y = getD c (p + 1) nan; z = getD c (p + 2) nan }
+
 -- Vertex k: "Vertices are three f32 each" ('The shared set'). Where the curve has no vertex k, of which the paper says nothing, NaNs.
 unfoldable pub vertexOf : List Float → ℕ → Point
-vertexOf c k =
-    cond (ltb k (verticesIn c)) (record { x = getD c (3 * k) nan; y = getD c (3 * k + 1) nan; z = getD c (3 * k + 2) nan })
-    (record { x = nan; y = nan; z = nan })
+vertexOf c k = cond (ltb k (verticesIn c)) (pointAt c (3 * k)) (record { x = nan; y = nan; z = nan })
 
 -- Segment k of `count`: the difference from vertex k to the next one, which for the closing segment is vertex 0.
 unfoldable pub segmentOf : Chain → ℕ → List Float → ℕ → Point
@@ -28,3 +31,7 @@ segmentOf chain count c k = differenceOf (vertexOf c (afterOf chain count k)) (v
 -- the segment normalised
 unfoldable pub segmentDirection : Chain → ℕ → List Float → ℕ → Point
 segmentDirection chain count c k = normalised (segmentOf chain count c k)
+
+-- The table of the directions: each segment's, one after the other, so that a body's are worked out once.
+unfoldable pub directionsOf : Chain → ℕ → List Float → List Float
+directionsOf chain count c = blocks count (λ k. coordinates (segmentDirection chain count c k))

@@ -1,6 +1,6 @@
 ghost use mathlib.Core.Path.{_≡_};
-ghost use Rattle.curve.specs.Checks.{segmentRefused, foldRefused, segmentsPermitted, foldsPermitted};
-use crate::segments::direction;
+ghost use Rattle.curve.specs.Checks.{segmentRefused, foldRefused, segmentsPermitted, noFoldIn};
+use crate::segments::point;
 use crate::segments::segment;
 use surface::Chain;
 use vec3::Point;
@@ -36,21 +36,16 @@ fn is_fold(u: Point, w: Point) -> bool
     1.0 + u.dot(w) < 0.000244140625
 }
 
-// Whether no vertex between two of `count` segments, one after the other, is refused by 13.
-pub fn has_no_fold(chain: Chain, count: u16, curve: &[f32]) -> bool
-    ensures { λ r. ⌜ r ≡ foldsPermitted chain count (now (curve .entry)) ⌝ }
+// Whether 13 refuses no vertex between two segments, one after the other, of a table of directions.
+pub fn has_no_fold(directions: &[f32]) -> bool
+    ensures { λ r. ⌜ r ≡ noFoldIn (now (directions .entry)) ⌝ }
 {
-    if count == 0 {
-        return true;
-    }
-    let mut u = direction(chain, count, curve, 0);
-    let mut k: u16 = 1;
+    let count = directions.len() / 3;
+    let mut k: usize = 1;
     while k < count {
-        let w = direction(chain, count, curve, k);
-        if is_fold(u, w) {
+        if is_fold(point(directions, 3 * k - 3), point(directions, 3 * k)) {
             return false;
         }
-        u = w;
         k += 1;
     }
     true

@@ -1,10 +1,12 @@
-// A curve as it is lent: vertices three coordinates each, its segments, what is refused of it, and the frames along it.
+// A curve as it is lent: vertices three coordinates each, its segments and their directions, what is refused of it, and the frames along it.
 mod checks;
+mod directions;
 mod framex;
 mod segments;
 
 pub use checks::are_segments_permitted;
 pub use checks::has_no_fold;
+pub use directions::fill_directions;
 pub use framex::Carried;
 pub use segments::direction;
 pub use segments::segment;

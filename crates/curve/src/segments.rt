@@ -1,20 +1,29 @@
 ghost use mathlib.Core.Path.{_≡_};
+ghost use Prim.Native.Nat.{_+_, _≤_};
+ghost use lib.ListN.{length};
 ghost use Rattle.surface.specs.Grid.{afterOf};
-ghost use Rattle.curve.specs.Segments.{vertexOf, segmentOf, segmentDirection};
+ghost use Rattle.curve.specs.Segments.{pointAt, vertexOf, segmentOf, segmentDirection};
 use surface::Chain;
 use vec3::Point;
+
+// The point whose coordinates begin at place `at`.
+pub(crate) fn point(floats: &[f32], at: usize) -> Point
+    requires { ⌜ at + 3 ≤ length (now floats) ⌝ }
+    ensures { λ r. ⌜ r ≡ pointAt (now (floats .entry)) at ⌝ }
+{
+    Point {
+        x: floats[at],
+        y: floats[at + 1],
+        z: floats[at + 2],
+    }
+}
 
 // Vertex k; NaNs where the curve has none.
 pub fn vertex(curve: &[f32], k: usize) -> Point
     ensures { λ r. ⌜ r ≡ vertexOf (now (curve .entry)) k ⌝ }
 {
     if k < curve.len() / 3 {
-        let at = 3 * k;
-        return Point {
-            x: curve[at],
-            y: curve[at + 1],
-            z: curve[at + 2],
-        };
+        return point(curve, 3 * k);
     }
     let nan = 0.0 / 0.0;
     Point {
@@ -24,7 +33,7 @@ pub fn vertex(curve: &[f32], k: usize) -> Point
     }
 }
 
-// The vertex in which segment k of `count` ends.
+// The vertex in which segment k of `count` ends. Only past the last segment, where no loop comes, is there anything to divide.
 fn end(chain: Chain, count: u16, k: u16) -> usize
     ensures { λ r. ⌜ r ≡ afterOf chain count k ⌝ }
 {
@@ -32,11 +41,17 @@ fn end(chain: Chain, count: u16, k: u16) -> usize
     match chain {
         Chain::Open => next,
         Chain::Closed => {
-            if count == 0 {
-                next
-            } else {
-                next % count as usize
+            let count = count as usize;
+            if next < count {
+                return next;
             }
+            if next == count {
+                return 0;
+            }
+            if count == 0 {
+                return next;
+            }
+            next % count
         }
     }
 }

@@ -24,6 +24,11 @@ pub each-every : (n : ℕ) (f : ℕ → Bool) → ((k : ℕ) → k < n → f k �
 each-every zero f each = refl
 each-every (suc n) f each = ap (λ (b : Bool). b && f n) (each-every n f (λ k h. each k (omega arith))) ∙ each n (omega arith)
 
+-- tests that agree below n
+pub every-cong : (n : ℕ) (f g : ℕ → Bool) → ((k : ℕ) → k < n → f k ≡ g k) → every n f ≡ every n g
+every-cong zero f g h = refl
+every-cong (suc n) f g h = λ i. every-cong n f g (λ k l. h k (omega arith)) i && h n (omega arith) i
+
 -- A turn of a loop that keeps the answer so far in a flag; and that clears the flag where the test fails.
 every-next : (i : ℕ) (f : ℕ → Bool) {flag next : Bool} → flag ≡ every i f → next ≡ flag && f i → next ≡ every (i + 1) f
 every-next i f {flag} {next} before is = is ∙ ap (λ (b : Bool). b && f i) before ∙ ap (λ (k : ℕ). every k f) (sym (add-one i))

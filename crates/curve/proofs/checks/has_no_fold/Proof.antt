@@ -1,61 +1,66 @@
--- `curve::has_no_fold` meets its contract: the loop passes a vertex only where it is no fold, and `u` follows. Assumes nothing.
+-- `curve::has_no_fold` meets its contract: the loop passes a vertex only where it is no fold. Assumes nothing.
 use mathlib.Core.Path.{_≡_, refl, sym, ap, _∙_}
 use mathlib.Core.Bool.{Bool, true, not}
 use mathlib.Core.List.{List}
-use Prim.Native.Nat.{ℕ, _+_, _-_, _≤_}
+use Prim.Native.Nat.{ℕ, _+_, _-_, _*_, _/_, _≤_, _<_}
 use native.Mathlib.Omega.{arith}
 use borrow.Author.Needs.{needs}
 use denote.Ref.{now}
 use lib.Ieee.{Float}
+use lib.ListN.{length}
 use Rattle.laws.specs.Every.{every, every-more, every-fails}
-use Rattle.surface.specs.declared.grid.Chain.{Chain}
-use Rattle.curve.specs.Segments.{segmentDirection}
-use Rattle.curve.specs.Checks.{foldRefused, foldsPermitted}
+use Rattle.curve.specs.Segments.{pointAt, vertexOf}
+use Rattle.curve.specs.Checks.{foldRefused, noFoldIn}
+use Rattle.curve.proofs.Table.{vertex-at}
 use Rattle.curve.proofs.checks.has_no_fold.Statement.{statement}
 use Rattle.curve.proofs.checks.has_no_fold.Tie as tie
 
-abbrev permittedAt : Chain → ℕ → List Float → ℕ → Bool
-permittedAt chain count curve k = not (foldRefused (segmentDirection chain count curve k) (segmentDirection chain count curve (k + 1)))
+abbrev permittedAt : List Float → ℕ → Bool
+permittedAt d k = not (foldRefused (vertexOf d k) (vertexOf d (k + 1)))
 
 abbrev Inv-loop : tie.InvT-loop
-Inv-loop chain count curve u₀ k₀ u k =
-    (1 ≤ k) × (k ≤ count) × (u ≡ segmentDirection chain count curve (k - 1)) × (every (k - 1) (permittedAt chain count curve) ≡ true)
+Inv-loop directions count k₀ k = (1 ≤ k) × (every (k - 1) (permittedAt directions) ≡ true) × (k - 1 ≤ count - 1)
 
 abbrev μ-loop : tie.MeasureT-loop
-μ-loop chain count curve u₀ k₀ u k = count - k
+μ-loop directions count k₀ k = count - k
 
 -- what a turn's test says of its vertex
-tested : (c : tie.After-is-fold Inv-loop μ-loop) → let a = c .before .before .before .before .before .before .before .args in
-    not (c .is-fold .result) ≡ permittedAt (a .chain) (a .count) (now (a .curve)) (c .before .before .before .loop .k - 1)
-tested c = let a = c .before .before .before .before .before .before .before .args in
-    let l = c .before .before .before .loop in
-    let along = segmentDirection (a .chain) (a .count) (now (a .curve)) in
-    let next : l .k ≡ l .k - 1 + 1 = omega arith in
-    ap not (c .is-fold .ensures ∙ (λ i. foldRefused (l .inv .2 i) ((c .before .direction2 .ensures ∙ ap along next) i)))
-
-returns : tie.Need-returns Inv-loop μ-loop
-unfolding foldsPermitted
-returns c = let a = c .before .before .args in
-    ap (λ n. every (n - 1) (permittedAt (a .chain) (a .count) (now (a .curve)))) (sym (c .if1 .taken))
-
-direction-requires : tie.Need-direction-requires Inv-loop μ-loop
-direction-requires c κs = search needs
+tested : (c : tie.After-is-fold Inv-loop μ-loop) → let d = now (c .before .before .before .before .before .before .args .directions) in
+    not (c .is-fold .result) ≡ permittedAt d (c .before .before .before .before .loop .k - 1)
+tested c = let d = now (c .before .before .before .before .before .before .args .directions) in
+    let k = c .before .before .before .before .loop .k in
+    let first : 3 * k - 3 ≡ 3 * (k - 1) = omega arith in
+    let next : k ≡ k - 1 + 1 = omega arith in
+    let u = c .before .before .point .ensures ∙ vertex-at d (k - 1) (omega arith) first in
+    let w = c .before .point2 .ensures ∙ vertex-at d k (omega arith) refl ∙ ap (vertexOf d) next in
+    ap not (c .is-fold .ensures ∙ (λ i. foldRefused (u i) (w i)))
 
 loop-holds : tie.Need-loop-holds Inv-loop μ-loop
-loop-holds c = (omega arith, omega arith, c .direction .ensures, refl)
+loop-holds c = (omega arith, refl, omega arith)
 
-direction-requires-2 : tie.Need-direction-requires-2 Inv-loop μ-loop
-direction-requires-2 c κs = search needs
+mul-point : tie.Need-mul-point Inv-loop μ-loop
+mul-point c = omega arith
+
+sub-point : tie.Need-sub-point Inv-loop μ-loop
+sub-point c = omega arith
+
+point-requires : tie.Need-point-requires Inv-loop μ-loop
+point-requires c κs = omega arith
+
+mul-point-2 : tie.Need-mul-point-2 Inv-loop μ-loop
+mul-point-2 c = omega arith
+
+point-requires-2 : tie.Need-point-requires-2 Inv-loop μ-loop
+point-requires-2 c κs = omega arith
 
 is-fold-requires : tie.Need-is-fold-requires Inv-loop μ-loop
 is-fold-requires c κs = search needs
 
-returns-2 : tie.Need-returns-2 Inv-loop μ-loop
-unfolding foldsPermitted
-returns-2 c = let l = c .before .before .before .before .loop in
-    let a = c .before .before .before .before .before .before .before .before .args in
-    sym (every-fails (a .count - 1) (permittedAt (a .chain) (a .count) (now (a .curve))) (l .k - 1) (omega arith)
-    (sym (tested (c .before)) ∙ ap not (c .if2 .taken)))
+returns : tie.Need-returns Inv-loop μ-loop
+unfolding noFoldIn
+returns c = let k = c .before .before .before .before .before .loop .k in
+    let d = now (c .before .before .before .before .before .before .before .args .directions) in
+    sym (every-fails (length d / 3 - 1) (permittedAt d) (k - 1) (omega arith) (sym (tested (c .before)) ∙ ap not (c .if1 .taken)))
 
 add-k : tie.Need-add-k Inv-loop μ-loop
 add-k c = omega arith
@@ -64,23 +69,20 @@ loop-less : tie.Need-loop-less Inv-loop μ-loop
 loop-less c = omega arith
 
 loop-again : tie.Need-loop-again Inv-loop μ-loop
-loop-again c = let l = c .before .before .before .before .loop in
-    let a = c .before .before .before .before .before .before .before .before .args in
-    let f = permittedAt (a .chain) (a .count) (now (a .curve)) in
-    let here : l .k ≡ l .k + 1 - 1 = omega arith in
+loop-again c = let l = c .before .before .before .before .before .loop in
+    let f = permittedAt (now (c .before .before .before .before .before .before .before .args .directions)) in
     let next : l .k - 1 + 1 ≡ l .k + 1 - 1 = omega arith in (
       omega arith,
+      ap (λ n. every n f) (sym next) ∙ every-more (l .k - 1) f (l .inv .1) (sym (tested (c .before)) ∙ ap not (c .if1 .left)),
       omega arith,
-      c .before .before .direction2 .ensures ∙ ap (segmentDirection (a .chain) (a .count) (now (a .curve))) here,
-      ap (λ n. every n f) (sym next) ∙ every-more (l .k - 1) f (l .inv .3) (sym (tested (c .before)) ∙ ap not (c .if2 .left)),
     )
 
-returns-3 : tie.Need-returns-3 Inv-loop μ-loop
-unfolding foldsPermitted
-returns-3 c = let l = c .before .loop in
-    let a = c .before .before .before .before .before .args in
-    let all : l .k - 1 ≡ a .count - 1 = omega arith in
-    sym (l .inv .3) ∙ ap (λ n. every n (permittedAt (a .chain) (a .count) (now (a .curve)))) all
+returns-2 : tie.Need-returns-2 Inv-loop μ-loop
+unfolding noFoldIn
+returns-2 c = let l = c .before .loop in
+    let d = now (c .before .before .before .args .directions) in
+    let all : l .k - 1 ≡ length d / 3 - 1 = omega arith in
+    sym (l .inv .1) ∙ ap (λ n. every n (permittedAt d)) all
 
 pub has-no-fold-spec : {M : Type 1} → statement M
 has-no-fold-spec =
@@ -88,13 +90,15 @@ has-no-fold-spec =
     (tie.spec
     Inv-loop
     μ-loop
-    returns
-    direction-requires
     loop-holds
-    direction-requires-2
+    mul-point
+    sub-point
+    point-requires
+    mul-point-2
+    point-requires-2
     is-fold-requires
-    returns-2
+    returns
     add-k
     loop-less
     loop-again
-    returns-3)
+    returns-2)
