@@ -3,7 +3,7 @@
 use mathlib.Core.Path.{_≡_, refl, sym, ap, _∙_}
 use mathlib.Core.Bool.{not}
 use mathlib.Core.List.{List}
-use Prim.Native.Nat.{ℕ, _+_, _-_, _*_, _/_, _≤_, _<_}
+use Prim.Native.Nat.{ℕ, _+_, _-_, _*_, _≤_, _<_}
 use native.Mathlib.Nat.{zero-add}
 use native.Mathlib.Omega.{arith}
 use borrow.Author.Tests.{lt-ltb}
@@ -14,7 +14,6 @@ use Rattle.laws.specs.Every.{every, every-cong}
 use Rattle.laws.specs.Overwrite.{overwrite, length-overwrite, getD-within}
 use Rattle.surface.specs.declared.grid.Chain.{Chain}
 use Rattle.vec3.specs.Points.{coordinates}
-use Rattle.vec3.specs.declared.points.Point.{Point}
 use Rattle.curve.specs.Segments.{verticesIn, pointAt, vertexOf, segmentDirection, directionsOf}
 use Rattle.curve.specs.Checks.{foldRefused, foldsPermitted, noFoldIn}
 

@@ -2,14 +2,14 @@
 use mathlib.Core.Path.{_≡_, refl, sym, ap, _∙_}
 use mathlib.Core.Bool.{Bool, true, not}
 use mathlib.Core.List.{List}
-use Prim.Native.Nat.{ℕ, _+_, _-_, _*_, _/_, _≤_, _<_}
+use Prim.Native.Nat.{ℕ, _+_, _-_, _*_, _/_, _≤_}
 use native.Mathlib.Omega.{arith}
 use borrow.Author.Needs.{needs}
 use denote.Ref.{now}
 use lib.Ieee.{Float}
 use lib.ListN.{length}
 use Rattle.laws.specs.Every.{every, every-more, every-fails}
-use Rattle.curve.specs.Segments.{pointAt, vertexOf}
+use Rattle.curve.specs.Segments.{vertexOf}
 use Rattle.curve.specs.Checks.{foldRefused, noFoldIn}
 use Rattle.curve.proofs.Table.{vertex-at}
 use Rattle.curve.proofs.checks.has_no_fold.Statement.{statement}
