@@ -1,17 +1,19 @@
 -- The table of directions: its length, each of its points, also in a buffer at whose front it was written, and that it has the curve's own
 -- folds. Assumes nothing.
 use mathlib.Core.Path.{_≡_, refl, sym, ap, _∙_}
-use mathlib.Core.Bool.{not}
+use mathlib.Core.Bool.{Bool, not}
 use mathlib.Core.List.{List}
 use Prim.Native.Nat.{ℕ, _+_, _-_, _*_, _≤_, _<_}
 use native.Mathlib.Nat.{zero-add}
 use native.Mathlib.Omega.{arith}
-use borrow.Author.Tests.{lt-ltb}
+use borrow.Author.Tests.{lt-ltb, le-leb}
+use lib.Dec.{leb}
 use lib.Ieee.{Float, nan}
-use lib.ListN.{length, getD}
+use lib.ListN.{length, getD, take}
 use Rattle.laws.specs.Blocks.{length-blocks, getD-blocks}
 use Rattle.laws.specs.Every.{every, every-cong}
-use Rattle.laws.specs.Overwrite.{overwrite, length-overwrite, getD-within}
+use Rattle.laws.specs.Lent.{part-written}
+use Rattle.laws.specs.Overwrite.{overwrite, placed, length-overwrite, getD-within}
 use Rattle.surface.specs.declared.grid.Chain.{Chain}
 use Rattle.vec3.specs.Points.{coordinates}
 use Rattle.curve.specs.Segments.{verticesIn, pointAt, vertexOf, segmentDirection, directionsOf}
@@ -52,6 +54,17 @@ module _ (chain : Chain) (count : ℕ) (c : List Float) where
       ap (λ n. every n (λ k. not (foldRefused (vertexOf d k) (vertexOf d (k + 1))))) corners
       ∙ every-cong (count - 1) (λ k. not (foldRefused (vertexOf d k) (vertexOf d (k + 1)))) (λ k. not (foldRefused (along k) (along (k + 1))))
       (λ k h i. not (foldRefused (direction-of k (omega arith) i) (direction-of (k + 1) (omega arith) i)))
+
+  -- what `fill_directions` leaves where there is room, all of it and as far as the table goes
+  pub filled : (table₀ : List Float) {r : Bool} {t : List Float} → count * 3 ≤ length table₀ → r ≡ leb (count * 3) (length table₀)
+      → t ≡ placed r (directionsOf chain count c) table₀ → t ≡ overwrite 0 (directionsOf chain count c) table₀
+  filled table₀ room fits is =
+      is ∙ ap (λ (b : Bool). placed b (directionsOf chain count c) table₀) (fits ∙ le-leb (count * 3) (length table₀) room)
+
+  pub filled-front : (table₀ : List Float) {t : List Float} → count * 3 ≤ length table₀ → t ≡ overwrite 0 (directionsOf chain count c) table₀
+      → take (count * 3) t ≡ directionsOf chain count c
+  filled-front table₀ room is =
+      ap (take (count * 3)) is ∙ part-written 0 (count * 3) (directionsOf chain count c) table₀ length-directions (omega arith)
 
   -- the table at the front of a buffer, read at a place and by number
   written : (table₀ : List Float) (p : ℕ) → count * 3 ≤ length table₀ → p < count * 3

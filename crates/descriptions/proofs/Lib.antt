@@ -1,3 +1,4 @@
 pub mod FirstOf
 pub mod Shapes
+pub mod Checked
 pub mod KindNumbers

@@ -10,14 +10,26 @@ use lib.Ieee.{Float}
 use lib.ListN.{length}
 use borrow.Author.Tests.{le-leb, eqb-true}
 use Rattle.laws.specs.Conjunction.{both-true}
+use Rattle.surface.specs.declared.grid.Chain.{Chain}
+use Rattle.surface.specs.declared.grid.Chain.the-variants as chain
 use Rattle.kinds.specs.Limits.{between, segmentCountPermitted}
 use Rattle.kinds.specs.Kinds.{permitted, vertexCount, triangleCount, layersOf}
 use Rattle.kinds.specs.declared.topology.Topology.{Topology}
 use Rattle.kinds.specs.declared.topology.Topology.the-variants as topology
 use Rattle.kinds.proofs.Bounds.{Bounds, bounds, between-true}
 use Rattle.descriptions.specs.Answers.{AllPermitted, accepted}
-use Rattle.descriptions.specs.Descriptions.{topologyOf}
-use Rattle.descriptions.specs.Refusals.{verticesPermitted, shapeTests, ShapePermitted, shapeOf, checkedTests}
+use Rattle.descriptions.specs.Descriptions.{curveChain, segmentsOf, segmentCount, topologyOf}
+use Rattle.descriptions.specs.Refusals.{
+  verticesPermitted,
+  curvePermitted,
+  roundPermitted,
+  lengthwisePermitted,
+  shapeTests,
+  ShapePermitted,
+  shapeOf,
+  segmentTests,
+  checkedTests,
+}
 use Rattle.descriptions.specs.declared.description.Description.{Description}
 use Rattle.descriptions.specs.declared.description.Description.the-variants.{Ribbon, Tube, Capsule, Torus, ClosedCylinder}
 use Rattle.descriptions.proofs.FirstOf.{accepted-by}
@@ -28,6 +40,14 @@ vertices-most (Tube n r) N h = between-true 2 4096 N h .1
 vertices-most (Capsule n L r) N h = between-true 2 4096 N h .1
 vertices-most (Torus n r) N h = between-true 3 4096 N h .1
 vertices-most (ClosedCylinder n S centred r l) N h = omega (arith, eqb-true N 0 h)
+
+no-more : (k : Chain) (N : ℕ) → segmentsOf k N ≤ N
+no-more chain.Open N = omega arith
+no-more chain.Closed N = omega arith
+
+-- nor are there more segments
+pub segments-most : (d : Description) (N : ℕ) → verticesPermitted d N ≡ true → segmentCount d N ≤ 4096
+segments-most d N h = omega (arith, vertices-most d N h, no-more (curveChain d) N)
 
 -- 2 to 4,096 vertices have 1 to 4,095 segments between them
 open-segments : (N : ℕ) → between 2 4096 N ≡ true → segmentCountPermitted (N - 1) ≡ true
@@ -74,8 +94,16 @@ accepted-permitted d N h =
     let told = accepted-by (shapeTests d N) (topologyOf d N) h in
     ap permitted (told .0) ∙ shape-permitted d N (told .1)
 
--- what `check` accepts: whole vertices, and a permitted number of them
+-- 10 of a curve, 20 and 21: whole vertices, and a permitted number of them
+curve-shape : (d : Description) (c : List Float) → curvePermitted d c ≡ true → roundPermitted d ≡ true → lengthwisePermitted d (length c / 3) ≡ true
+    → (length c % 3 ≡ 0) × ShapePermitted d (length c / 3)
+curve-shape d c h round lengthwise =
+    let curve = both-true (eqb (length c % 3) 0) (verticesPermitted d (length c / 3)) h in
+    (eqb-true (length c % 3) 0 (curve .0), (curve .1, (round, (lengthwise, tt))))
+
+-- so much of what `check_segments` accepts, and of what `check` accepts
+pub segments-shape : (d : Description) (c : List Float) → AllPermitted (segmentTests d c) → (length c % 3 ≡ 0) × ShapePermitted d (length c / 3)
+segments-shape d c h = curve-shape d c (h .0) (h .1 .0) (h .1 .1 .0)
+
 pub checked-shape : (d : Description) (c : List Float) → AllPermitted (checkedTests d c) → (length c % 3 ≡ 0) × ShapePermitted d (length c / 3)
-checked-shape d c h =
-    let curve = both-true (eqb (length c % 3) 0) (verticesPermitted d (length c / 3)) (h .0) in
-    (eqb-true (length c % 3) 0 (curve .0), (curve .1, (h .1 .0, (h .1 .1 .0, tt))))
+checked-shape d c h = curve-shape d c (h .0) (h .1 .0) (h .1 .1 .0)

@@ -86,18 +86,28 @@ bodyCounts body = record { vertices = vertexCount body; triangles = triangleCoun
 abbrev pub countsOf : Description → ℕ → Answer Counts
 countsOf d N = firstOf (countsTests d N) (bodyCounts (topologyOf d N))
 
--- 22, 11, 12, 13, the end of the order below
+-- 22, 11, 12, of the order below
 abbrev pub floatTests : Description → List Float → List Test
-floatTests d c =
-    test 22 (sizesPermitted d) ∷ test 11 (allFinite c) ∷ test 12 (curveSegmentsPermitted d c) ∷ test 13 (curveFoldsPermitted d c) ∷ []
+floatTests d c = test 22 (sizesPermitted d) ∷ test 11 (allFinite c) ∷ test 12 (curveSegmentsPermitted d c) ∷ []
 
 abbrev pub floatsOf : Description → Topology → List Float → Answer Topology
 floatsOf d body c = firstOf (floatTests d c) body
 
+-- that order but for its end: all that is tried before a segment's direction is worked out
+abbrev pub segmentTests : Description → List Float → List Test
+segmentTests d c =
+    test 10 (curvePermitted d c) ∷ test 20 (roundPermitted d) ∷ test 21 (lengthwisePermitted d (length c / 3)) ∷ floatTests d c
+
+abbrev pub segmentsCheckedOf : Description → List Float → Answer Topology
+segmentsCheckedOf d c = firstOf (segmentTests d c) (topologyOf d (length c / 3))
+
+-- its end
+abbrev pub foldTests : Description → List Float → List Test
+foldTests d c = test 13 (curveFoldsPermitted d c) ∷ []
+
 -- "Add's order: 1, 10, 20, 21, 22, 11, 12, 13, 2, 3, 4, 23", as far as no table is needed.
 abbrev pub checkedTests : Description → List Float → List Test
-checkedTests d c =
-    test 10 (curvePermitted d c) ∷ test 20 (roundPermitted d) ∷ test 21 (lengthwisePermitted d (length c / 3)) ∷ floatTests d c
+checkedTests d c = segmentTests d c ++ foldTests d c
 
 abbrev pub checkedOf : Description → List Float → Answer Topology
 checkedOf d c = firstOf (checkedTests d c) (topologyOf d (length c / 3))

@@ -3,14 +3,17 @@ ghost use mathlib.Core.Bool.{true};
 ghost use Prim.Native.Nat.{_/_};
 ghost use lib.ListN.{length};
 ghost use Rattle.descriptions.specs.Answers.{verdictAnswer};
-ghost use Rattle.descriptions.specs.Refusals.{verticesPermitted, checkedOf, floatsOf};
+ghost use Rattle.descriptions.specs.Refusals.{verticesPermitted, curveFoldsPermitted, floatsOf, segmentsCheckedOf, checkedOf};
 use crate::answers::Refusal;
 use crate::answers::Verdict;
 use crate::description::Description;
 use kinds::Topology;
 
+// Room for the directions of 4,096 segments, the most that a curve may have, three floats each.
+pub const MOST_DIRECTIONS: usize = 12288;
+
 impl Description {
-    // Refusals 22, 11, 12 and 13, or the body, where 10, 20 and 21 do not refuse it.
+    // Refusals 22, 11 and 12, or the body, where 10, 20 and 21 do not refuse it.
     fn check_floats(self, body: Topology, curve: &[f32]) -> Verdict
         requires { ⌜ verticesPermitted self (length (now curve) / 3) ≡ true ⌝ }
         ensures { λ r. ⌜ verdictAnswer r ≡ floatsOf self body (now (curve .entry)) ⌝ }
@@ -26,15 +29,12 @@ impl Description {
         if !curve::are_segments_permitted(chain, count, curve) {
             return Verdict::Refused(Refusal::Segment);
         }
-        if !curve::has_no_fold(chain, count, curve) {
-            return Verdict::Refused(Refusal::Fold);
-        }
         Verdict::Accepted(body)
     }
 
-    // Refusals 10, 20, 21, 22, 11, 12 and 13, or the body by its numbers.
-    pub fn check(self, curve: &[f32]) -> Verdict
-        ensures { λ r. ⌜ verdictAnswer r ≡ checkedOf self (now (curve .entry)) ⌝ }
+    // Refusals 10, 20, 21, 22, 11 and 12, or the body by its numbers: all that comes before a direction is worked out.
+    pub fn check_segments(self, curve: &[f32]) -> Verdict
+        ensures { λ r. ⌜ verdictAnswer r ≡ segmentsCheckedOf self (now (curve .entry)) ⌝ }
     {
         if curve.len() % 3 != 0 {
             return Verdict::Refused(Refusal::CurveVertices);
@@ -42,6 +42,34 @@ impl Description {
         match self.shape(curve.len() / 3) {
             Verdict::Refused(why) => Verdict::Refused(why),
             Verdict::Accepted(body) => self.check_floats(body, curve),
+        }
+    }
+
+    // 13, of a permitted number of vertices.
+    fn are_folds_permitted(self, curve: &[f32]) -> bool
+        requires { ⌜ verticesPermitted self (length (now curve) / 3) ≡ true ⌝ }
+        ensures { λ r. ⌜ r ≡ curveFoldsPermitted self (now (curve .entry)) ⌝ }
+    {
+        let chain = self.chain();
+        let count = self.segment_count(curve.len() / 3);
+        let mut directions = [0.0f32; MOST_DIRECTIONS];
+        curve::fill_directions(chain, count, curve, &mut directions);
+        curve::has_no_fold(&directions[..count as usize * 3])
+    }
+
+    // Refusals 10, 20, 21, 22, 11, 12 and 13, or the body by its numbers.
+    pub fn check(self, curve: &[f32]) -> Verdict
+        ensures { λ r. ⌜ verdictAnswer r ≡ checkedOf self (now (curve .entry)) ⌝ }
+    {
+        match self.check_segments(curve) {
+            Verdict::Refused(why) => Verdict::Refused(why),
+            Verdict::Accepted(body) => {
+                if self.are_folds_permitted(curve) {
+                    Verdict::Accepted(body)
+                } else {
+                    Verdict::Refused(Refusal::Fold)
+                }
+            }
         }
     }
 }

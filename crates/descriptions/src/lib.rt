@@ -9,6 +9,7 @@ mod limits;
 pub use answers::Counted;
 pub use answers::Refusal;
 pub use answers::Verdict;
+pub use checks::MOST_DIRECTIONS;
 pub use description::Description;
 pub use kind::Described;
 pub use kind::LAST_KIND;

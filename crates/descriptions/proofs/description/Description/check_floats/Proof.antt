@@ -1,19 +1,11 @@
--- Four tests, one behind the other. Assumes nothing.
-use mathlib.Core.List.{List}
-use mathlib.Core.Bool.{Bool}
-use mathlib.Core.Path.{_≡_, _∙_}
-use Prim.Native.Nat.{ℕ}
-use lib.Ieee.{Float}
-use Rattle.surface.specs.declared.grid.Chain.{Chain}
-use Rattle.curve.specs.Checks.{segmentsPermitted, foldsPermitted}
+-- Three tests, one behind the other. Assumes nothing.
+use mathlib.Core.Path.{_∙_}
+use Rattle.curve.specs.Checks.{segmentsPermitted}
 use Rattle.descriptions.proofs.FirstOf.{permits, refuses}
+use Rattle.descriptions.proofs.Checked.{along}
 use borrow.Author.Needs.{needs}
 use Rattle.descriptions.proofs.description.Description.check_floats.Statement.{statement}
 use Rattle.descriptions.proofs.description.Description.check_floats.Tie as tie
-
--- a test over the chain and the number of segments that were answered, as the test over what they are
-along : (f : Chain → ℕ → List Float → Bool) (l : List Float) {k k' : Chain} {m m' : ℕ} → k ≡ k' → m ≡ m' → f k m l ≡ f k' m' l
-along f l p q = λ j. f (p j) (q j) l
 
 are-sizes-permitted-requires : tie.Need-are-sizes-permitted-requires
 are-sizes-permitted-requires c κs = search needs
@@ -47,30 +39,14 @@ returns-3 c =
     let segments = along segmentsPermitted curve (counted .before .chain .ensures) (counted .segment-count .ensures) in
     rw (sizes, finite, refuses (c .before .are-segments-permitted .ensures ∙ segments) (c .if3 .taken))
 
-has-no-fold-requires : tie.Need-has-no-fold-requires
-has-no-fold-requires c κs = search needs
-
 returns-4 : tie.Need-returns-4
 returns-4 c =
-    let counted = c .before .before .before .before in
+    let counted = c .before .before in
     let curve = counted .before .before .before .before .before .before .before .args .curve .now in
     let sizes = permits (counted .before .before .before .before .before .are-sizes-permitted .ensures) (counted .before .before .before .before .if1 .left) in
     let finite = permits (counted .before .before .before .are-finite .ensures) (counted .before .before .if2 .left) in
     let segments = along segmentsPermitted curve (counted .before .chain .ensures) (counted .segment-count .ensures) in
-    let folds = along foldsPermitted curve (counted .before .chain .ensures) (counted .segment-count .ensures) in
-    let permitted = permits (c .before .before .before .are-segments-permitted .ensures ∙ segments) (c .before .before .if3 .left) in
-    rw (sizes, finite, permitted, refuses (c .before .has-no-fold .ensures ∙ folds) (c .if4 .taken))
-
-returns-5 : tie.Need-returns-5
-returns-5 c =
-    let counted = c .before .before .before .before in
-    let curve = counted .before .before .before .before .before .before .before .args .curve .now in
-    let sizes = permits (counted .before .before .before .before .before .are-sizes-permitted .ensures) (counted .before .before .before .before .if1 .left) in
-    let finite = permits (counted .before .before .before .are-finite .ensures) (counted .before .before .if2 .left) in
-    let segments = along segmentsPermitted curve (counted .before .chain .ensures) (counted .segment-count .ensures) in
-    let folds = along foldsPermitted curve (counted .before .chain .ensures) (counted .segment-count .ensures) in
-    let permitted = permits (c .before .before .before .are-segments-permitted .ensures ∙ segments) (c .before .before .if3 .left) in
-    rw (sizes, finite, permitted, permits (c .before .has-no-fold .ensures ∙ folds) (c .if4 .left))
+    rw (sizes, finite, permits (c .before .are-segments-permitted .ensures ∙ segments) (c .if3 .left))
 
 pub check-floats-spec : {M : Type 1} → statement M
 check-floats-spec =
@@ -84,6 +60,4 @@ check-floats-spec =
     segment-count-requires
     are-segments-permitted-requires
     returns-3
-    has-no-fold-requires
-    returns-4
-    returns-5)
+    returns-4)
