@@ -1,16 +1,30 @@
 ghost use mathlib.Core.Path.{_≡_};
 ghost use mathlib.Core.Bool.{true};
-ghost use Prim.Native.Nat.{_/_};
+ghost use Prim.Native.Nat.{_*_, _/_, _≤_};
 ghost use lib.ListN.{length};
+ghost use Rattle.curve.specs.Checks.{foldsPermitted};
 ghost use Rattle.descriptions.specs.Answers.{verdictAnswer};
 ghost use Rattle.descriptions.specs.Refusals.{verticesPermitted, curveFoldsPermitted, floatsOf, segmentsCheckedOf, checkedOf};
 use crate::answers::Refusal;
 use crate::answers::Verdict;
 use crate::description::Description;
 use kinds::Topology;
+use surface::Chain;
 
 // Room for the directions of 4,096 segments, the most that a curve may have, three floats each.
 pub const MOST_DIRECTIONS: usize = 12288;
+
+// Of 256: a table is all zeros before it is filled, and a short curve shall not wait for a long one's.
+const FEW_DIRECTIONS: usize = 768;
+
+// 13, by way of a table that has room for the directions.
+fn is_without_fold(chain: Chain, count: u16, curve: &[f32], directions: &mut [f32]) -> bool
+    requires { ⌜ count * 3 ≤ length (now directions) ⌝ }
+    ensures { λ r. ⌜ r ≡ foldsPermitted chain count (now (curve .entry)) ⌝ }
+{
+    curve::fill_directions(chain, count, curve, directions);
+    curve::has_no_fold(&directions[..count as usize * 3])
+}
 
 impl Description {
     // Refusals 22, 11 and 12, or the body, where 10, 20 and 21 do not refuse it.
@@ -52,9 +66,12 @@ impl Description {
     {
         let chain = self.chain();
         let count = self.segment_count(curve.len() / 3);
+        if count as usize * 3 <= FEW_DIRECTIONS {
+            let mut directions = [0.0f32; FEW_DIRECTIONS];
+            return is_without_fold(chain, count, curve, &mut directions);
+        }
         let mut directions = [0.0f32; MOST_DIRECTIONS];
-        curve::fill_directions(chain, count, curve, &mut directions);
-        curve::has_no_fold(&directions[..count as usize * 3])
+        is_without_fold(chain, count, curve, &mut directions)
     }
 
     // Refusals 10, 20, 21, 22, 11, 12 and 13, or the body by its numbers.
