@@ -8,19 +8,25 @@ use lib.Ieee.{Float}
 use Rattle.surface.specs.declared.grid.Chain.{Chain}
 use Rattle.surface.specs.declared.grid.Chain.the-variants.{Open, Closed}
 use Rattle.vec3.specs.declared.points.Point.{Point}
-use Rattle.curve.specs.Segments.{vertexOf, segmentDirection}
-use Rattle.curve.specs.Framex.{carriedOf, carriedTo}
+use Rattle.curve.specs.Segments.{pointAt, vertexOf, segmentDirection}
+use Rattle.curve.specs.Framex.{carriedOf, carriedOn, carriedTo}
 use Rattle.curve.specs.declared.framex.Carried.{Carried}
-use Rattle.curve.proofs.Carry.{carried-next}
+use Rattle.curve.proofs.Carry.{carried-first, carried-next}
 use Rattle.rings.specs.Axes.{axesAt, betweenOf}
 use Rattle.rings.specs.declared.axes.Axes.{Axes}
 use Rattle.bodies.specs.Polyline3.{vtx2framex, framez, vtx2framey, axesOf}
 use Rattle.bodies.specs.Polyloop3 as polyloop3
+use Rattle.bodies.specs.Tables.{Along}
 
 -- the axes at vertex g, on a curve of either kind
 abbrev pub axesAlong : Chain → ℕ → List Float → ℕ → Axes
 axesAlong Open m c g = axesOf m c g
 axesAlong Closed m c g = polyloop3.axesOf m c g
+
+-- what is carried, as a writer begins it, on the first segment
+pub begun : (chain : Chain) (m : ℕ) (c : List Float) {table : List Float} {b : Carried} {u : Point}
+    → Along chain m c table → 1 ≤ m → u ≡ pointAt table 0 → b ≡ carriedOn u → b ≡ carriedOf chain m c 0
+begun chain m c along h at on = on ∙ ap carriedOn (at ∙ along .direction 0 h) ∙ carried-first chain m c
 
 -- a step of what is carried, as a loop makes it
 pub carried-on : (chain : Chain) (m : ℕ) (c : List Float) (g : ℕ) {b b′ : Carried} {w : Point}
@@ -28,6 +34,12 @@ pub carried-on : (chain : Chain) (m : ℕ) (c : List Float) (g : ℕ) {b b′ : 
 carried-on chain m c g l before along made =
     let e : g - 1 + 1 ≡ g = omega arith in
     made ∙ (λ i. carriedTo (before i) ((along ∙ ap (segmentDirection chain m c) (sym e)) i)) ∙ carried-next chain m c (g - 1) ∙ ap (carriedOf chain m c) e
+
+-- ez of the two directions that are carried there
+pub between-on : (chain : Chain) (m : ℕ) (c : List Float) (g : ℕ) {b : Carried} {w : Point} → b ≡ carriedOf chain m c (g - 1) → w ≡ segmentDirection chain m c g
+    → betweenOf chain (segmentDirection chain m c (g - 1)) (segmentDirection chain m c g) ≡ betweenOf chain (b .direction) w
+unfolding carriedOf
+between-on chain m c g before along = sym (λ i. betweenOf chain (before i .direction) (along i))
 
 -- the frame and ez on an open curve: at its first vertex, between two segments, at its last vertex
 module _ (m : ℕ) (c : List Float) where

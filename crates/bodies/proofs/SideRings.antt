@@ -27,7 +27,7 @@ side-along Closed m c r n g = refl
 
 -- as the calls make it
 pub ring-along : (chain : Chain) (m : ℕ) (c : List Float) (r : Float) (n g : ℕ) {k : Ring} {a : Axes}
-    → k ≡ sideOf chain a r → a ≡ axesAlong chain m c g → ringOf (ringVertex (k .order) k) n ≡ sweptRing chain m c r n g
+    → k ≡ sideOf chain a r → a ≡ axesAlong chain m c g → ringOf (ringVertex k) n ≡ sweptRing chain m c r n g
 ring-along chain m c r n g is at =
     side-ring chain _ r n is ∙ ap (λ (a : Axes). ringOf (sideVertex chain a r) n) at ∙ side-along chain m c r n g
 
@@ -35,7 +35,7 @@ ring-along chain m c r n g is at =
 pub first-and-inner : (chain : Chain) (m : ℕ) (c : List Float) (r : Float) (n : ℕ) (t₀ : List Float)
     {b : Carried} {a : Axes} {k : Ring} {t t′ : List Float} → 1 ≤ m
     → b ≡ carriedOf chain m c 0 → a ≡ axesAt (vertexOf c 0) (b .frame) (b .direction) → k ≡ sideOf chain a r
-    → t ≡ overwrite 0 (ringOf (ringVertex (k .order) k) n) t₀ → t′ ≡ overwrite (n * 3) (innerRings chain m c r n) t
+    → t ≡ overwrite 0 (ringOf (ringVertex k) n) t₀ → t′ ≡ overwrite (n * 3) (innerRings chain m c r n) t
     → t′ ≡ overwrite 0 (blocks m (sweptRing chain m c r n)) t₀
 first-and-inner chain m c r n t₀ h on made is first inner =
     first-and-others m (n * 3) (sweptRing chain m c r n) t₀ h (length-swept chain m c r n 0) first

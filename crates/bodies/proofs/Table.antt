@@ -1,36 +1,86 @@
--- The table of directions after the two stores of one turn. Assumes nothing.
-use mathlib.Core.Path.{_≡_, sym, ap, _∙_}
-use mathlib.Core.List.{List}
-use mathlib.Core.Logic.{⊎-elim}
-use Prim.Native.Nat.{ℕ, _+_, _*_, _<_}
-use native.Mathlib.Nat.{eq-or-lt-of-le}
+-- A table of points: each of them, where it was written, and four of the directions round a ring. Assumes nothing.
+use mathlib.Core.Path.{_≡_, refl, ap, _∙_}
+use mathlib.Core.Bool.{Bool}
+use mathlib.Core.List.{List, _++_}
+use Prim.Native.Nat.{ℕ, _+_, _-_, _*_, _≤_, _<_}
 use native.Mathlib.Omega.{arith}
+use borrow.Author.Tests.{le-leb}
+use lib.Dec.{leb}
 use lib.Ieee.{Float, nan}
-use lib.ListN.{length, getD, set, length-set}
-use lib.Seq.{getD-set-same, getD-set-other}
+use lib.ListN.{length, getD}
+use Rattle.laws.specs.Overwrite.{overwrite, placed, length-overwrite, getD-within}
+use Rattle.laws.specs.Blocks.{blocks, length-blocks, getD-blocks}
+use Rattle.vec3.specs.Points.{coordinates, thrice}
 use Rattle.vec3.specs.Turns.{pair, turnOf}
-use Rattle.vec3.specs.declared.turns.Direction.{Direction}
-use Rattle.bodies.specs.Directions.{directionAt}
+use Rattle.vec3.specs.declared.points.Point.{Point}
+use Rattle.surface.specs.declared.grid.Chain.{Chain}
+use Rattle.surface.specs.declared.grid.Chain.the-variants.{Open}
+use Rattle.curve.specs.Segments.{pointAt, directionsOf}
+use Rattle.curve.proofs.Table.{table-direction-at}
+use Rattle.rings.specs.Axes.{betweenOf}
+use Rattle.rings.specs.Vertices.{vertexOn}
+use Rattle.rings.specs.Rings.{inOrder, ringVertex, fourOf}
+use Rattle.rings.specs.declared.ring.Ring.{Ring}
+use Rattle.bodies.specs.Tables.{Turns, fourIn, fourCoordinates, Along, Framez, FramezIn}
 
-abbrev stored : List Float → ℕ → Direction → List Float
-stored t k d = set (set t k (d .cos)) (k + 1) (d .sin)
+module _ (at n : ℕ) (point : ℕ → Point) (t₀ : List Float) where
+  abbrev points : List Float
+  points = blocks n (λ k. coordinates (point k))
 
-stored-here : (t : List Float) (k : ℕ) (d : Direction) → k + 1 < length t → directionAt (stored t k d) k ≡ d
-stored-here t k d h =
-    let c = getD-set-other (set t k (d .cos)) (k + 1) k (d .sin) nan (omega arith) ∙ getD-set-same t k (d .cos) nan (omega arith) in
-    let s = getD-set-same (set t k (d .cos)) (k + 1) (d .sin) nan (omega (arith, length-set t k (d .cos))) in
-    λ i. pair (c i) (s i)
+  -- coordinate j of point k
+  coordinate : (k j : ℕ) {q : ℕ} → at + n * 3 ≤ length t₀ → k < n → j < 3 → q ≡ at + (k * 3 + j)
+      → getD (overwrite at points t₀) q nan ≡ getD (coordinates (point k)) j nan
+  coordinate k j room h l is =
+      let sized : length points ≡ n * 3 = length-blocks 3 n (λ k. coordinates (point k)) (λ k h. refl) in
+      ap (λ (i : ℕ). getD (overwrite at points t₀) i nan) is
+      ∙ getD-within at points t₀ (k * 3 + j) nan (omega (arith, sized)) (omega arith)
+      ∙ getD-blocks 3 n (λ k. coordinates (point k)) k j (k * 3 + j) nan (λ k. refl) h l refl
 
-kept-before : (t : List Float) (k : ℕ) (d : Direction) (p : ℕ) → p < k → getD (stored t k d) p nan ≡ getD t p nan
-kept-before t k d p h =
-    getD-set-other (set t k (d .cos)) (k + 1) p (d .sin) nan (omega arith) ∙ getD-set-other t k p (d .cos) nan (omega arith)
+  pub table-point : (k : ℕ) {q : ℕ} → at + n * 3 ≤ length t₀ → k < n → q ≡ at + k * 3 → pointAt (overwrite at points t₀) q ≡ point k
+  table-point k {q} room h is = λ i. record {
+    x = coordinate k 0 {q = q} room h (omega arith) (omega arith) i;
+    y = coordinate k 1 {q = q + 1} room h (omega arith) (omega arith) i;
+    z = coordinate k 2 {q = q + 2} room h (omega arith) (omega arith) i;
+  }
 
--- a turn that stores direction i of n behind those before it
-pub one-more-direction : (n i : ℕ) (t : List Float) {d : Direction} → i * 2 + 1 < length t → d ≡ turnOf i n
-    → ((k : ℕ) → k < i → directionAt t (k * 2) ≡ turnOf k n)
-    → (k : ℕ) → k < i + 1 → directionAt (stored t (i * 2) d) (k * 2) ≡ turnOf k n
-one-more-direction n i t {d} room is before k h =
-    ⊎-elim
-    (λ same. ap (λ (j : ℕ). directionAt (stored t (i * 2) d) (j * 2)) same ∙ stored-here t (i * 2) d room ∙ is ∙ ap (λ (j : ℕ). turnOf j n) (sym same))
-    (λ lower. (λ j. pair (kept-before t (i * 2) d (k * 2) (omega arith) j) (kept-before t (i * 2) d (k * 2 + 1) (omega arith) j)) ∙ before k lower)
-    (eq-or-lt-of-le {n = k} {m = i} (omega arith))
+-- the table that `fill_directions` writes
+pub written-along : (chain : Chain) (count : ℕ) (c t₀ : List Float) {r : Bool} {t : List Float} → count * 3 ≤ length t₀ → r ≡ leb (count * 3) (length t₀)
+    → t ≡ placed r (directionsOf chain count c) t₀ → Along chain count c t
+written-along chain count c t₀ {r} {t} h is so =
+    let whole : t ≡ overwrite 0 (directionsOf chain count c) t₀ = so ∙ ap (λ (b : Bool). placed b (directionsOf chain count c) t₀) (is ∙ le-leb _ _ h) in
+    record {
+      room = omega (arith, ap length whole, length-overwrite 0 (directionsOf chain count c) t₀);
+      direction = λ k l. ap (λ (t : List Float). pointAt t (k * 3)) whole ∙ table-direction-at chain count c t₀ k h l (omega arith);
+    }
+
+-- and ez, which `fill_framez` makes of it
+pub written-framez : (count : ℕ) (c dirs : List Float) {t : List Float} → Along Open count c dirs → FramezIn count dirs t → Framez Open count c t
+written-framez count c dirs along framez =
+    record {
+      room = framez .room;
+      between = λ g l h.
+          let e : (g - 1) * 3 + 3 ≡ g * 3 = omega arith in
+          framez .between g l h
+          ∙ (λ j. betweenOf Open (along .direction (g - 1) (omega arith) j) ((ap (pointAt dirs) e ∙ along .direction g h) j));
+    }
+
+module _ (n : ℕ) {cosines sines : List Float} (turns : Turns n cosines sines) where
+  -- direction i, read at its place
+  pub direction-at : (i : ℕ) {k : ℕ} → i < n → k ≡ i * 3 → pair (getD cosines k nan) (getD sines k nan) ≡ turnOf i n
+  unfolding thrice
+  direction-at i h is =
+      λ j. pair ((ap (λ (k : ℕ). getD cosines k nan) is ∙ ap (λ (p : Point). p .x) (turns .cosine i h)) j)
+      ((ap (λ (k : ℕ). getD sines k nan) is ∙ ap (λ (p : Point). p .x) (turns .sine i h)) j)
+
+module _ (ring : Ring) (n : ℕ) {cosines sines : List Float} (turns : Turns n cosines sines) where
+  -- the vertex of a ring in direction i, read at its place
+  pub vertex-at : (i : ℕ) {k : ℕ} → i < n → k ≡ i * 3
+      → inOrder (ring .order) ring (pointAt cosines k) (pointAt sines k) ≡ ringVertex ring (turnOf i n)
+  vertex-at i h is = λ j. inOrder (ring .order) ring ((ap (pointAt cosines) is ∙ turns .cosine i h) j) ((ap (pointAt sines) is ∙ turns .sine i h) j)
+
+  -- and of four directions from i on
+  pub four-vertices : (i : ℕ) {k : ℕ} → i + 4 ≤ n → k ≡ i * 3
+      → fourCoordinates (fourOf (inOrder (ring .order) ring) (fourIn cosines k) (fourIn sines k)) ≡ blocks 4 (λ j. vertexOn (ringVertex ring) n (i + j))
+  four-vertices i {k} h is =
+      λ j. ((coordinates (vertex-at (i + 0) {k = k} (omega arith) (omega arith) j) ++ coordinates (vertex-at (i + 1) {k = k + 3} (omega arith) (omega arith) j))
+      ++ coordinates (vertex-at (i + 2) {k = k + 6} (omega arith) (omega arith) j)) ++ coordinates (vertex-at (i + 3) {k = k + 9} (omega arith) (omega arith) j)

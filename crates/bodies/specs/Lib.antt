@@ -1,4 +1,4 @@
-pub mod Directions
+pub mod Tables
 pub mod Polyline3
 pub mod Polyloop3
 pub mod Capsule

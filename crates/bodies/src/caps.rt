@@ -2,7 +2,7 @@ ghost use mathlib.Core.Path.{_≡_};
 ghost use Prim.Native.Nat.{_+_, _*_, _≤_};
 ghost use lib.ListN.{length};
 ghost use Rattle.laws.specs.Overwrite.{overwrite};
-ghost use Rattle.bodies.specs.Directions.{Directions};
+ghost use Rattle.bodies.specs.Tables.{Turns};
 ghost use Rattle.bodies.specs.Capsule.{capRings};
 use crate::ring_writer::write_ring;
 use rings::Axes;
@@ -18,9 +18,10 @@ pub(crate) fn write_cap(
     radius: f32,
     longitudes: u16,
     n: u16,
-    table: &[f32],
+    cosines: &[f32],
+    sines: &[f32],
 )
-    requires { ⌜ (at + longitudes * (n * 3) ≤ length (now out)) × Directions n (now table) ⌝ }
+    requires { ⌜ (at + longitudes * (n * 3) ≤ length (now out)) × Turns n (now cosines) (now sines) ⌝ }
     ensures { λ _. ⌜ now (out .exit) ≡ overwrite at (capRings end axes radius longitudes n) (now (out .entry)) ⌝ }
 {
     let size = n as usize * 3;
@@ -31,8 +32,9 @@ pub(crate) fn write_cap(
             out,
             place,
             cap_ring(end, axes, radius, longitudes, j),
-            n,
-            table,
+            n as usize,
+            cosines,
+            sines,
         );
         place += size;
         j += 1;

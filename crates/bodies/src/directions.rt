@@ -1,22 +1,26 @@
-ghost use Prim.Native.Nat.{_*_, _≤_};
+ghost use Prim.Native.Nat.{_/_, _≤_};
 ghost use lib.ListN.{length};
-ghost use Rattle.bodies.specs.Directions.{Directions};
-use vec3::turn;
+ghost use Rattle.descriptions.specs.Refusals.{ShapePermitted};
+ghost use Rattle.bodies.specs.Tables.{AlongCurve};
+use descriptions::Description;
+use surface::Chain;
 
-// Room for the directions round a ring of 256, the most that a body may have.
-pub(crate) const TABLE: usize = 512;
-
-// The directions round a ring of n, cosine and sine one after the other: worked out once for a body.
-pub(crate) fn fill_directions(n: u16, table: &mut [f32])
-    requires { ⌜ n * 2 ≤ length (now table) ⌝ }
-    ensures { λ _. ⌜ Directions n (now (table .exit)) ⌝ }
+// The directions of a permitted curve's segments: worked out once for a body.
+pub(crate) fn fill_along(description: Description, curve: &[f32], directions: &mut [f32])
+    requires { ⌜ ShapePermitted description (length (now curve) / 3) ⌝ }
+    requires { ⌜ 12288 ≤ length (now directions) ⌝ }
+    ensures { λ _. ⌜ AlongCurve description (now (curve .entry)) (now (directions .exit)) ⌝ }
 {
-    let mut i: u16 = 0;
-    while i < n {
-        let d = turn(i as u32, n as u32);
-        let at = i as usize * 2;
-        table[at] = d.cos;
-        table[at + 1] = d.sin;
-        i += 1;
+    let vertices = curve.len() / 3;
+    let chain = description.chain();
+    match chain {
+        Chain::Open => {
+            if 0 < vertices {
+                curve::fill_directions(Chain::Open, (vertices - 1) as u16, curve, directions);
+            }
+        }
+        Chain::Closed => {
+            curve::fill_directions(Chain::Closed, vertices as u16, curve, directions);
+        }
     }
 }

@@ -1,11 +1,13 @@
 // A body alone: from a description and a curve to its vertices.
 mod caps;
 mod directions;
+mod points;
 mod polyline3;
 mod polyloop3;
 mod ring_writer;
 mod swept;
 mod trimesh3_primitive;
+mod turns;
 mod vertices;
 
 pub use vertices::write_vertices;

@@ -2,13 +2,12 @@ ghost use mathlib.Core.Path.{_≡_};
 ghost use Prim.Native.Nat.{_+_, _*_, _≤_};
 ghost use lib.ListN.{length};
 ghost use Rattle.laws.specs.Overwrite.{overwrite};
-ghost use Rattle.bodies.specs.Directions.{Directions};
+ghost use Rattle.bodies.specs.Tables.{Turns};
 ghost use Rattle.bodies.specs.ClosedCylinder.{lowOf, cylinderRings, cylinderVertices};
-use crate::directions::TABLE;
-use crate::directions::fill_directions;
-use crate::ring_writer::put_point;
-use crate::ring_writer::write_ring;
-use rings::level;
+use crate::points::put_point;
+use crate::ring_writer::write_level;
+use crate::turns::ROUND;
+use crate::turns::fill_turns;
 use vec3::Point;
 
 fn low(centred: bool, height: f32) -> f32
@@ -26,9 +25,10 @@ fn write_levels(
     height: f32,
     layers: u16,
     n: u16,
-    table: &[f32],
+    cosines: &[f32],
+    sines: &[f32],
 )
-    requires { ⌜ (layers ≤ 4096) × (at + (layers + 1) * (n * 3) ≤ length (now out)) × Directions n (now table) ⌝ }
+    requires { ⌜ (layers ≤ 4096) × (at + (layers + 1) * (n * 3) ≤ length (now out)) × Turns n (now cosines) (now sines) ⌝ }
     ensures { λ _. ⌜ now (out .exit) ≡ overwrite at (cylinderRings radius low height layers n) (now (out .entry)) ⌝ }
 {
     let step = height / layers as f32;
@@ -36,7 +36,8 @@ fn write_levels(
     let mut place = at;
     let mut g: u16 = 0;
     while g <= layers {
-        write_ring(out, place, level(radius, low + step * g as f32), n, table);
+        let y = low + step * g as f32;
+        write_level(out, place, radius, y, n as usize, cosines, sines);
         place += size;
         g += 1;
     }
@@ -54,8 +55,9 @@ pub(crate) fn cylinder_closed_end_yup(
     requires { ⌜ (n ≤ 256) × (layers ≤ 4096) × ((layers + 1) * (n * 3) + 6 ≤ length (now out)) ⌝ }
     ensures { λ _. ⌜ now (out .exit) ≡ overwrite 0 (cylinderVertices radius height n layers centred) (now (out .entry)) ⌝ }
 {
-    let mut table = [0.0f32; TABLE];
-    fill_directions(n, &mut table);
+    let mut cosines = [0.0f32; ROUND];
+    let mut sines = [0.0f32; ROUND];
+    fill_turns(n, &mut cosines, &mut sines);
     let low = low(centred, height);
     let top = 3 + (layers as usize + 1) * (n as usize * 3);
     put_point(
@@ -67,7 +69,7 @@ pub(crate) fn cylinder_closed_end_yup(
             z: 0.0,
         },
     );
-    write_levels(out, 3, radius, low, height, layers, n, &table);
+    write_levels(out, 3, radius, low, height, layers, n, &cosines, &sines);
     put_point(
         out,
         top,

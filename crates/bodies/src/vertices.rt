@@ -6,23 +6,29 @@ ghost use Rattle.kinds.specs.Kinds.{vertexCount};
 ghost use Rattle.descriptions.specs.Descriptions.{topologyOf};
 ghost use Rattle.descriptions.specs.Refusals.{ShapePermitted};
 ghost use Rattle.bodies.specs.Bodies.{verticesOf, drawable};
+ghost use Rattle.bodies.specs.Tables.{AlongCurve};
+use crate::directions::fill_along;
 use crate::polyline3::set_vtx2xyz_for_generalized_cylinder_open_end;
 use crate::polyline3::to_trimesh3_capsule;
 use crate::polyline3::to_trimesh3_ribbon;
 use crate::polyloop3::to_trimesh3_torus;
 use crate::trimesh3_primitive::cylinder_closed_end_yup;
 use descriptions::Description;
+use descriptions::MOST_DIRECTIONS;
 use descriptions::Verdict;
 
-// The vertices of a body that 10, 20 and 21 permit.
-fn fill(description: Description, curve: &[f32], out: &mut [f32])
+// The vertices of a body that 10, 20 and 21 permit, from the table of its curve's directions.
+pub(crate) fn fill(description: Description, curve: &[f32], directions: &[f32], out: &mut [f32])
     requires { ⌜ ShapePermitted description (length (now curve) / 3) ⌝ }
     requires { ⌜ 3 * vertexCount (topologyOf description (length (now curve) / 3)) ≤ length (now out) ⌝ }
+    requires { ⌜ AlongCurve description (now curve) (now directions) ⌝ }
     ensures { λ _. ⌜ now (out .exit) ≡ overwrite 0 (verticesOf description (now (curve .entry))) (now (out .entry)) ⌝ }
 {
     let count = curve.len() / 3;
     match description {
-        Description::Ribbon { width } => to_trimesh3_ribbon(out, curve, (count - 1) as u16, width),
+        Description::Ribbon { width } => {
+            to_trimesh3_ribbon(out, curve, directions, (count - 1) as u16, width)
+        },
         Description::Tube {
             divisions: n,
             radius,
@@ -30,6 +36,7 @@ fn fill(description: Description, curve: &[f32], out: &mut [f32])
             set_vtx2xyz_for_generalized_cylinder_open_end(
                 out,
                 curve,
+                directions,
                 (count - 1) as u16,
                 n as u16,
                 radius,
@@ -39,11 +46,21 @@ fn fill(description: Description, curve: &[f32], out: &mut [f32])
             divisions: n,
             longitudes: l,
             radius,
-        } => { to_trimesh3_capsule(out, curve, (count - 1) as u16, n as u16, l as u16, radius) }
+        } => {
+            to_trimesh3_capsule(
+                out,
+                curve,
+                directions,
+                (count - 1) as u16,
+                n as u16,
+                l as u16,
+                radius,
+            )
+        }
         Description::Torus {
             divisions: n,
             radius,
-        } => { to_trimesh3_torus(out, curve, count as u16, n as u16, radius) }
+        } => { to_trimesh3_torus(out, curve, directions, count as u16, n as u16, radius) }
         Description::ClosedCylinder {
             divisions: n,
             layers,
@@ -69,7 +86,9 @@ pub fn write_vertices(description: Description, curve: &[f32], out: &mut [f32]) 
             if 3 * body.vertex_count() > out.len() as u64 {
                 return false;
             }
-            fill(description, curve, out);
+            let mut directions = [0.0f32; MOST_DIRECTIONS];
+            fill_along(description, curve, &mut directions);
+            fill(description, curve, &directions, out);
             true
         }
     }

@@ -3,7 +3,7 @@ use mathlib.Core.List.{List}
 use Prim.Native.Nat.{ℕ, zero, suc}
 use lib.Ieee.{Float}
 use Rattle.surface.specs.declared.grid.Chain.{Chain}
-use Rattle.vec3.specs.Frames.{firstFrame, transported}
+use Rattle.vec3.specs.Frames.{frameBeside, firstFrame, transported}
 use Rattle.vec3.specs.declared.points.Point.{Point}
 use Rattle.vec3.specs.declared.frames.Frame.{Frame}
 use Rattle.curve.specs.Segments.{segmentOf, segmentDirection}
@@ -19,9 +19,9 @@ frameOf chain count c (suc g) = transported (frameOf chain count c g) (segmentDi
 unfoldable pub carriedOf : Chain → ℕ → List Float → ℕ → Carried
 carriedOf chain count c g = record { frame = frameOf chain count c g; direction = segmentDirection chain count c g }
 
--- on the first segment, and from one segment to the next
-abbrev pub carriedFrom : Chain → ℕ → List Float → Carried
-carriedFrom chain count c = carriedOf chain count c 0
+-- on a first segment along u, and from one segment to the next
+unfoldable pub carriedOn : Point → Carried
+carriedOn u = record { frame = frameBeside u; direction = u }
 
 unfoldable pub carriedTo : Carried → Point → Carried
 carriedTo b w = record { frame = transported (b .frame) (b .direction) w; direction = w }

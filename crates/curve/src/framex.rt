@@ -1,7 +1,5 @@
 ghost use mathlib.Core.Path.{_≡_};
-ghost use Rattle.curve.specs.Framex.{carriedFrom, carriedTo};
-use crate::segments::segment;
-use surface::Chain;
+ghost use Rattle.curve.specs.Framex.{carriedOn, carriedTo};
 use vec3::Frame;
 use vec3::Point;
 
@@ -12,14 +10,13 @@ pub struct Carried {
 }
 
 impl Carried {
-    // On the first of `count` segments.
-    pub fn first(chain: Chain, count: u16, curve: &[f32]) -> Carried
-        ensures { λ r. ⌜ r ≡ carriedFrom chain count (now (curve .entry)) ⌝ }
+    // On the first segment, along u.
+    pub fn first(u: Point) -> Carried
+        ensures { λ r. ⌜ r ≡ carriedOn u ⌝ }
     {
-        let v = segment(chain, count, curve, 0);
         Carried {
-            frame: Frame::first(v),
-            direction: v.normalize(),
+            frame: Frame::beside(u),
+            direction: u,
         }
     }
 

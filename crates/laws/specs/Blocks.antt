@@ -4,7 +4,7 @@ use mathlib.Core.Path.{_≡_, refl, sym, ap, _∙_}
 use mathlib.Core.List.{List, [], _∷_, _++_, map, append-nil, append-assoc}
 use mathlib.Core.Logic.{⊎-elim}
 use Prim.Native.Nat.{ℕ, zero, suc, _+_, _-_, _*_, _≤_, _<_}
-use native.Mathlib.Nat.{suc-mul, zero-add, not-suc-le-zero, le-of-suc-le-suc, eq-or-lt-of-le}
+use native.Mathlib.Nat.{suc-mul, zero-add, add-zero, add-suc, not-suc-le-zero, le-of-suc-le-suc, eq-or-lt-of-le}
 use native.Mathlib.Numerals.{add-one}
 use native.Mathlib.Omega.{arith}
 use lib.ListN.{length, getD, take, length-append, List·getD-append}
@@ -40,6 +40,14 @@ module _ {ℓ} {A : Type ℓ} where
       ∙ ap (λ (l : List A). l ++ f (n + 1)) (blocks-first n f)
       ∙ append-assoc (f 0) (blocks n (λ k. f (k + 1))) (f (n + 1))
 
+  -- the first m blocks, and the others behind them
+  pub blocks-split : (m k : ℕ) (f : ℕ → List A) → blocks (m + k) f ≡ blocks m f ++ blocks k (λ j. f (m + j))
+  blocks-split m zero f = ap (λ (n : ℕ). blocks n f) (add-zero m) ∙ sym (append-nil (blocks m f))
+  blocks-split m (suc k) f =
+      ap (λ (n : ℕ). blocks n f) (add-suc m k)
+      ∙ ap (λ (l : List A). l ++ f (m + k)) (blocks-split m k f)
+      ∙ append-assoc (blocks m f) (blocks k (λ j. f (m + j))) (f (m + k))
+
   -- element k of block i, where each block has c elements
   pub getD-blocks : (c n : ℕ) (f : ℕ → List A) (i k p : ℕ) (d : A) → ((j : ℕ) → length (f j) ≡ c) → i < n → k < c → p ≡ i * c + k
       → getD (blocks n f) p d ≡ getD (f i) k d
@@ -65,6 +73,14 @@ module _ {ℓ} {A : Type ℓ} where
   one-more at i c f t₀ {t} sized before place written is =
       written-behind at (blocks i f) (f i) t₀ before (length-blocks c i f sized) (written ∙ (λ j. overwrite (place j) (is j) t))
       ∙ ap (λ (k : ℕ). overwrite at (blocks k f) t₀) (sym (add-one i))
+
+  -- the same of a turn that writes k blocks at once
+  pub some-more : (at i k c : ℕ) (f : ℕ → List A) (t₀ : List A) {t t′ v : List A} {p : ℕ} → ((j : ℕ) → j < i → length (f j) ≡ c)
+      → t ≡ overwrite at (blocks i f) t₀ → p ≡ at + i * c → t′ ≡ overwrite p v t → v ≡ blocks k (λ j. f (i + j))
+      → t′ ≡ overwrite at (blocks (i + k) f) t₀
+  some-more at i k c f t₀ {t} sized before place written is =
+      written-behind at (blocks i f) (blocks k (λ j. f (i + j))) t₀ before (length-blocks c i f sized) (written ∙ (λ j. overwrite (place j) (is j) t))
+      ∙ ap (λ (l : List A). overwrite at l t₀) (sym (blocks-split i k f))
 
   -- what such a loop leaves, once its count is n
   pub all-written : (at : ℕ) (f : ℕ → List A) (t₀ : List A) {t : List A} {i n : ℕ} → t ≡ overwrite at (blocks i f) t₀ → i ≡ n → t ≡ overwrite at (blocks n f) t₀

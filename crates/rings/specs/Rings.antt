@@ -1,41 +1,55 @@
 -- Rings as values, and the vertex of a ring in a direction: the formulas of document 01, 'Frames and vertices', as Vertices.antt quotes
 -- them, over a centre and a radius. Definitions only.
 use Prim.Native.Nat.{ℕ, _-_, _*_}
-use lib.Ieee.{Float, binary32, ofBits, neg}
+use lib.Ieee.{Float, neg}
 use Rattle.surface.specs.declared.caps.End.{End}
 use Rattle.surface.specs.declared.caps.End.the-variants.{Bottom, Top}
 use Rattle.surface.specs.declared.grid.Chain.{Chain}
 use Rattle.surface.specs.declared.grid.Chain.the-variants.{Open, Closed}
-use Rattle.vec3.specs.Points.{times, sumOf, scaled}
+use Rattle.vec3.specs.Points.{times, thrice, sumOf, scaled, productOf}
 use Rattle.vec3.specs.Turns.{turnOf}
 use Rattle.vec3.specs.declared.points.Point.{Point}
 use Rattle.vec3.specs.declared.turns.Direction.{Direction}
-use Rattle.rings.specs.Vertices.{pole}
 use Rattle.rings.specs.declared.axes.Axes.{Axes}
 use Rattle.rings.specs.declared.ring.Order.{Order}
-use Rattle.rings.specs.declared.ring.Order.the-variants.{EyFirst, ExFirst, SumFirst, Level}
+use Rattle.rings.specs.declared.ring.Order.the-variants.{EyFirst, ExFirst, SumFirst}
 use Rattle.rings.specs.declared.ring.Ring.{Ring}
+use Rattle.rings.specs.declared.four.Four.{Four}
 
 unfoldable pub ringAround : Order → Axes → Point → Float → Ring
 ringAround order a centre r = record { order = order; centre = centre; ex = a .ex; ey = a .ey; radius = r }
 
-unfoldable pub eyFirst : Ring → Direction → Point
-eyFirst k d = sumOf (sumOf (k .centre) (scaled (k .ey) (times (k .radius) (d .cos)))) (scaled (k .ex) (times (k .radius) (d .sin)))
+-- The vertex of a ring in a direction whose cosine and sine are handed over three times each, as the tables hold them: component by
+-- component the products are those of the formulas.
+unfoldable pub eyFirst : Ring → Point → Point → Point
+eyFirst k cos sin =
+    let r = thrice (k .radius) in
+    sumOf (sumOf (k .centre) (productOf (k .ey) (productOf r cos))) (productOf (k .ex) (productOf r sin))
 
-unfoldable pub exFirst : Ring → Direction → Point
-exFirst k d = sumOf (sumOf (k .centre) (scaled (k .ex) (times (k .radius) (d .sin)))) (scaled (k .ey) (times (k .radius) (d .cos)))
+unfoldable pub exFirst : Ring → Point → Point → Point
+exFirst k cos sin =
+    let r = thrice (k .radius) in
+    sumOf (sumOf (k .centre) (productOf (k .ex) (productOf r sin))) (productOf (k .ey) (productOf r cos))
 
-unfoldable pub sumFirst : Ring → Direction → Point
-sumFirst k d = sumOf (k .centre) (scaled (sumOf (scaled (k .ex) (d .cos)) (scaled (k .ey) (d .sin))) (k .radius))
+unfoldable pub sumFirst : Ring → Point → Point → Point
+sumFirst k cos sin = sumOf (k .centre) (scaled (sumOf (productOf (k .ex) cos) (productOf (k .ey) sin)) (k .radius))
 
-unfoldable pub levelAt : Ring → Direction → Point
-levelAt k d = record { x = times (k .radius) (d .cos); y = k .centre .y; z = times (k .radius) (d .sin) }
+abbrev pub inOrder : Order → Ring → Point → Point → Point
+inOrder EyFirst = eyFirst
+inOrder ExFirst = exFirst
+inOrder SumFirst = sumFirst
 
-abbrev pub ringVertex : Order → Ring → Direction → Point
-ringVertex EyFirst k d = eyFirst k d
-ringVertex ExFirst k d = exFirst k d
-ringVertex SumFirst k d = sumFirst k d
-ringVertex Level k d = levelAt k d
+abbrev pub ringVertex : Ring → Direction → Point
+ringVertex k d = inOrder (k .order) k (thrice (d .cos)) (thrice (d .sin))
+
+-- four vertices of a ring
+abbrev pub fourOf : (Point → Point → Point) → Four → Four → Four
+fourOf vertex cos sin = record {
+  first = vertex (cos .first) (sin .first);
+  second = vertex (cos .second) (sin .second);
+  third = vertex (cos .third) (sin .third);
+  fourth = vertex (cos .fourth) (sin .fourth);
+}
 
 -- the ring round the origin of the axes: ey first for a tube, the sum first for a torus
 abbrev pub sideOf : Chain → Axes → Float → Ring
@@ -50,7 +64,3 @@ capRing Bottom a r L j =
 capRing Top a r L j =
     let t = turnOf j (4 * L) in
     ringAround ExFirst a (sumOf (a .origin) (scaled (a .ez) (times r (t .sin)))) (times r (t .cos))
-
--- a closed cylinder's ring: its height in the centre, and no axes
-unfoldable pub levelOf : Float → Float → Ring
-levelOf r y = record { order = Level; centre = pole y; ex = pole (ofBits binary32 0); ey = pole (ofBits binary32 0); radius = r }

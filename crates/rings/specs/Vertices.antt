@@ -15,8 +15,11 @@ use Rattle.vec3.specs.declared.turns.Direction.{Direction}
 use Rattle.rings.specs.declared.axes.Axes.{Axes}
 
 -- A ring of n vertices: "(C, Sn) = turn(i, n)" for i from 0.
+abbrev pub vertexOn : (Direction → Point) → ℕ → ℕ → List Float
+vertexOn vertex n i = coordinates (vertex (turnOf i n))
+
 abbrev pub ringOf : (Direction → Point) → ℕ → List Float
-ringOf vertex n = blocks n (λ i. coordinates (vertex (turnOf i n)))
+ringOf vertex n = blocks n (vertexOn vertex n)
 
 -- Tube: "(p + ey·(r·C)) + ex·(r·Sn)".
 unfoldable pub tubeVertex : Axes → Float → Direction → Point
@@ -55,10 +58,12 @@ abbrev pub sideVertex : Chain → Axes → Float → Direction → Point
 sideVertex Open = tubeVertex
 sideVertex Closed = torusVertex
 
--- Closed cylinder: "ring g: (r·C, low + (length/S)·g, r·Sn)".
-unfoldable pub levelVertex : Float → Float → Float → ℕ → ℕ → Direction → Point
-levelVertex r low length S g d =
-    record { x = times r (d .cos); y = plus low (times (over length (whole S)) (whole g)); z = times r (d .sin) }
+-- Closed cylinder: "ring g: (r·C, low + (length/S)·g, r·Sn)", of any height, and of ring g.
+unfoldable pub levelAt : Float → Float → Direction → Point
+levelAt r y d = record { x = times r (d .cos); y = y; z = times r (d .sin) }
+
+abbrev pub levelVertex : Float → Float → Float → ℕ → ℕ → Direction → Point
+levelVertex r low length S g = levelAt r (plus low (times (over length (whole S)) (whole g)))
 
 -- "poles (+0, low, +0), (+0, low + length, +0)"
 abbrev pub pole : Float → Point

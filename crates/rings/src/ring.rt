@@ -1,19 +1,17 @@
 ghost use mathlib.Core.Path.{_≡_};
-ghost use Rattle.rings.specs.Rings.{ringAround, eyFirst, exFirst, sumFirst, levelAt, ringVertex};
+ghost use Rattle.rings.specs.Rings.{ringAround, eyFirst, exFirst, sumFirst, inOrder};
 use crate::axes::Axes;
-use vec3::Direction;
 use vec3::Point;
 
 // The order in which document 01 adds up the terms of a vertex: on the side of a swept body and in its bottom cap ey comes first, in a
-// top cap ex; on a torus the two are added before the radius comes in; a closed cylinder's ring lies level, round the axis y.
+// top cap ex; on a torus the two are added before the radius comes in.
 pub enum Order {
     EyFirst,
     ExFirst,
     SumFirst,
-    Level,
 }
 
-// A ring of vertices; a level one has its height in the centre and needs no axes.
+// A ring of vertices.
 pub struct Ring {
     pub order: Order,
     pub centre: Point,
@@ -38,53 +36,46 @@ impl Ring {
         }
     }
 
-    fn ey_first(self, d: Direction) -> Point
-        ensures { λ r. ⌜ r ≡ eyFirst self d ⌝ }
+    // A vertex takes the cosine and the sine of its direction three times each: so the coordinates of several vertices are worked out
+    // alike, several at a time.
+    pub(crate) fn ey_first(self, cos: Point, sin: Point) -> Point
+        ensures { λ r. ⌜ r ≡ eyFirst self cos sin ⌝ }
     {
+        let r = Point::thrice(self.radius);
         self.centre
-            .add(self.ey.scale(self.radius * d.cos))
-            .add(self.ex.scale(self.radius * d.sin))
+            .add(self.ey.product(r.product(cos)))
+            .add(self.ex.product(r.product(sin)))
     }
 
-    fn ex_first(self, d: Direction) -> Point
-        ensures { λ r. ⌜ r ≡ exFirst self d ⌝ }
+    pub(crate) fn ex_first(self, cos: Point, sin: Point) -> Point
+        ensures { λ r. ⌜ r ≡ exFirst self cos sin ⌝ }
     {
+        let r = Point::thrice(self.radius);
         self.centre
-            .add(self.ex.scale(self.radius * d.sin))
-            .add(self.ey.scale(self.radius * d.cos))
+            .add(self.ex.product(r.product(sin)))
+            .add(self.ey.product(r.product(cos)))
     }
 
-    fn sum_first(self, d: Direction) -> Point
-        ensures { λ r. ⌜ r ≡ sumFirst self d ⌝ }
+    pub(crate) fn sum_first(self, cos: Point, sin: Point) -> Point
+        ensures { λ r. ⌜ r ≡ sumFirst self cos sin ⌝ }
     {
         self.centre.add(
             self.ex
-                .scale(d.cos)
-                .add(self.ey.scale(d.sin))
+                .product(cos)
+                .add(self.ey.product(sin))
                 .scale(self.radius),
         )
     }
 
-    fn level(self, d: Direction) -> Point
-        ensures { λ r. ⌜ r ≡ levelAt self d ⌝ }
-    {
-        Point {
-            x: self.radius * d.cos,
-            y: self.centre.y,
-            z: self.radius * d.sin,
-        }
-    }
-
-    // The vertex in the direction d.
-    pub fn vertex(self, d: Direction) -> Point
-        ensures { λ r. ⌜ r ≡ ringVertex (self .order) self d ⌝ }
+    // The vertex in a direction.
+    pub fn vertex(self, cos: Point, sin: Point) -> Point
+        ensures { λ r. ⌜ r ≡ inOrder (self .order) self cos sin ⌝ }
     {
         let order = self.order;
         match order {
-            Order::EyFirst => self.ey_first(d),
-            Order::ExFirst => self.ex_first(d),
-            Order::SumFirst => self.sum_first(d),
-            Order::Level => self.level(d),
+            Order::EyFirst => self.ey_first(cos, sin),
+            Order::ExFirst => self.ex_first(cos, sin),
+            Order::SumFirst => self.sum_first(cos, sin),
         }
     }
 }

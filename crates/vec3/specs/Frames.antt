@@ -16,9 +16,12 @@ acrossX u = record { x = ofBits binary32 0; y = neg (u .z); z = u .y }
 unfoldable pub perpendicularTo : Point → Point
 perpendicularTo u = cond (le (ofBits binary32 0x3D80_0000) (dotOf (acrossY u) (acrossY u))) (acrossY u) (acrossX u)
 
--- "First frame of direction v: u = v normalised; .. then normalised."
+-- "First frame of direction v: u = v normalised; .. then normalised.": of u, and of v
+unfoldable pub frameBeside : Point → Frame
+frameBeside u = record { ex = normalised (perpendicularTo u) }
+
 unfoldable pub firstFrame : Point → Frame
-firstFrame v = record { ex = normalised (perpendicularTo (normalised v)) }
+firstFrame v = frameBeside (normalised v)
 
 -- "for segment directions normalised u, w and frame b, with c = dot(u, w), q = cross(u, w),
 -- it is (b·c + cross(q, b)) + q·(dot(q, b)/(1 + c))". 3F800000 is 1.

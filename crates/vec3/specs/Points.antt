@@ -18,6 +18,10 @@ times = Ieee.mul binary32
 abbrev pub over : Float → Float → Float
 over = Ieee.div binary32
 
+-- the same number on each axis
+unfoldable pub thrice : Float → Point
+thrice k = record { x = k; y = k; z = k }
+
 -- "Vertices are three f32 each" ('The shared set').
 abbrev pub coordinates : Point → List Float
 coordinates p = p .x ∷ p .y ∷ p .z ∷ []
@@ -31,6 +35,9 @@ differenceOf a b = record { x = less (a .x) (b .x); y = less (a .y) (b .y); z = 
 
 unfoldable pub scaled : Point → Float → Point
 scaled a k = record { x = times (a .x) k; y = times (a .y) k; z = times (a .z) k }
+
+unfoldable pub productOf : Point → Point → Point
+productOf a b = record { x = times (a .x) (b .x); y = times (a .y) (b .y); z = times (a .z) (b .z) }
 
 unfoldable pub quotientOf : Point → Float → Point
 quotientOf a k = record { x = over (a .x) k; y = over (a .y) k; z = over (a .z) k }

@@ -1,5 +1,5 @@
 ghost use mathlib.Core.Path.{_≡_};
-ghost use Rattle.vec3.specs.Frames.{perpendicularTo, firstFrame, transported};
+ghost use Rattle.vec3.specs.Frames.{perpendicularTo, frameBeside, firstFrame, transported};
 use crate::points::Point;
 
 // The frame at a vertex of a curve: the axis beside the segment.
@@ -31,8 +31,15 @@ impl Frame {
     pub fn first(v: Point) -> Frame
         ensures { λ r. ⌜ r ≡ firstFrame v ⌝ }
     {
+        Frame::beside(v.normalize())
+    }
+
+    // The same, of that difference normalised.
+    pub fn beside(u: Point) -> Frame
+        ensures { λ r. ⌜ r ≡ frameBeside u ⌝ }
+    {
         Frame {
-            ex: perpendicular(v.normalize()).normalize(),
+            ex: perpendicular(u).normalize(),
         }
     }
 

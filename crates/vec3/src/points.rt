@@ -1,5 +1,5 @@
 ghost use mathlib.Core.Path.{_≡_};
-ghost use Rattle.vec3.specs.Points.{sumOf, differenceOf, scaled, quotientOf, dotOf, crossOf, normOf, normalised};
+ghost use Rattle.vec3.specs.Points.{thrice, sumOf, differenceOf, scaled, productOf, quotientOf, dotOf, crossOf, normOf, normalised};
 
 // A vertex, a segment's direction or a frame's axis.
 pub struct Point {
@@ -9,6 +9,13 @@ pub struct Point {
 }
 
 impl Point {
+    // The same number on each axis.
+    pub fn thrice(k: f32) -> Point
+        ensures { λ r. ⌜ r ≡ thrice k ⌝ }
+    {
+        Point { x: k, y: k, z: k }
+    }
+
     pub fn add(self, b: Point) -> Point
         ensures { λ r. ⌜ r ≡ sumOf self b ⌝ }
     {
@@ -36,6 +43,16 @@ impl Point {
             x: self.x * k,
             y: self.y * k,
             z: self.z * k,
+        }
+    }
+
+    pub fn product(self, b: Point) -> Point
+        ensures { λ r. ⌜ r ≡ productOf self b ⌝ }
+    {
+        Point {
+            x: self.x * b.x,
+            y: self.y * b.y,
+            z: self.z * b.z,
         }
     }
 

@@ -3,7 +3,6 @@ use mathlib.Core.Path.{_≡_, refl, ap, _∙_}
 use mathlib.Core.List.{List, _++_}
 use Prim.Native.Nat.{ℕ, _+_, _-_, _*_, _≤_}
 use native.Mathlib.Omega.{arith}
-use borrow.Author.Needs.{needs}
 use denote.Ref.{now}
 use lib.Ieee.{Float}
 use lib.ListN.{length}
@@ -15,11 +14,14 @@ use Rattle.vec3.specs.Points.{coordinates, sumOf, differenceOf}
 use Rattle.vec3.specs.declared.points.Point.{Point}
 use Rattle.rings.specs.Vertices.{bottomPole, topPole}
 use Rattle.rings.specs.declared.axes.Axes.{Axes}
+use Rattle.curve.specs.Framex.{carriedOf}
 use Rattle.bodies.specs.Polyline3.{axesOf}
 use Rattle.bodies.specs.Swept.{innerRings}
 use Rattle.bodies.specs.Capsule.{capRings, capsuleVertices}
-use Rattle.bodies.proofs.Along.{axes-first, axes-last}
+use Rattle.bodies.proofs.Along.{begun, axes-first, axes-last}
 use Rattle.bodies.proofs.Lengths.{length-cap, length-inner}
+use Rattle.bodies.proofs.Table.{written-framez}
+use borrow.Author.Needs.{needs}
 use Rattle.bodies.proofs.polyline3.to_trimesh3_capsule.Statement.{statement}
 use Rattle.bodies.proofs.polyline3.to_trimesh3_capsule.Tie as tie
 
@@ -43,33 +45,58 @@ five-written n L r m c t₀ {low} {high} {p} {q} {t₁} {t₂} {t₃} first bott
     ∙ (λ i. overwrite 0 (coordinates ((bottom ∙ ap (λ (a : Axes). bottomPole a r) first) i) ++ (cap Bottom (first i)
     ++ (inner ++ (cap Top (last i) ++ coordinates ((top ∙ ap (λ (a : Axes). topPole a r) last) i))))) t₀)
 
--- from the first segment back to the function's start, and from the bottom cap back to the first segment
-abbrev entry : tie.After-first → tie.After-slice-known
-entry c = c .before .before .before .before .before
+-- from the first segment back to the tables and to the function's start, and from the bottom cap back to the first segment
+abbrev framez : tie.After-first → tie.After-fill-framez
+framez c = c .before .before .before
 
-abbrev carrying : tie.After-write-cap → tie.After-first
-carrying c = c .before .before .before .before .before .before .before .before .before .before
+abbrev turns : tie.After-first → tie.After-fill-turns
+turns c = c .before .before .before .before .before .before .before
+
+abbrev entry : tie.After-first → tie.Start
+entry c = c .before .before .before .before .before .before .before .before .before .before .before .before .before
+
+abbrev pole : tie.After-write-cap → tie.After-put-point
+pole c = c .before .before .before .before .before .before
+
+abbrev carrying : tie.After-put-point → tie.After-first
+carrying c = c .before .before .before .before .before
 
 -- the five writes are within bounds
-room : (c : tie.After-slice-known) → let a = c .before .args in
+room : (s : tie.Start) → let a = s .args in
     let size = a .n * 3 in
     a .longitudes * size + (a .m - 1) * size + a .longitudes * size + 6 ≤ length (now (a .out))
-room c = let a = c .before .args in
-    let p = c .before .pre in
+room s = let a = s .args in
+    let p = s .pre in
     let e : 2 * a .longitudes + a .m - 1 ≡ a .longitudes + (a .m - 1) + a .longitudes = omega arith in
     omega (arith, ap (λ k. k * (a .n * 3)) e)
 
-slice-aggregate-fill-directions : tie.Need-slice-aggregate-fill-directions
-slice-aggregate-fill-directions c = search needs
+-- what is carried begins on the first segment
+start : (f : tie.After-first) → f .first .result ≡ carriedOf Open (entry f .args .m) (now (entry f .args .curve)) 0
+start f = let s = entry f in begun Open (s .args .m) (now (s .args .curve)) (s .pre .1) (s .pre .0 .1 .segment) (f .before .point .ensures) (f .first .ensures)
 
-fill-directions-requires : tie.Need-fill-directions-requires
-fill-directions-requires c κs = search needs
+slice-aggregate-fill-turns : tie.Need-slice-aggregate-fill-turns
+slice-aggregate-fill-turns c = search needs
+
+slice-aggregate-fill-turns-2 : tie.Need-slice-aggregate-fill-turns-2
+slice-aggregate-fill-turns-2 c = search needs
+
+fill-turns-requires : tie.Need-fill-turns-requires
+fill-turns-requires c κs = search needs
+
+slice-aggregate-fill-framez : tie.Need-slice-aggregate-fill-framez
+slice-aggregate-fill-framez c = search needs
+
+fill-framez-requires : tie.Need-fill-framez-requires
+fill-framez-requires c κs = search needs
 
 mul-size : tie.Need-mul-size
 mul-size c = search needs
 
 mul-cap : tie.Need-mul-cap
-mul-cap c = let s = c .before .before .before .before in omega (arith, room s)
+mul-cap c = let s = c .before .before .before .before .before .before .before .before .before .before .before in omega (arith, room s)
+
+point-requires : tie.Need-point-requires
+point-requires c κs = search needs
 
 first-requires : tie.Need-first-requires
 first-requires c κs = search needs
@@ -87,54 +114,74 @@ put-point-requires : tie.Need-put-point-requires
 put-point-requires c κs = omega (arith, room (entry (c .before .before .before .before)))
 
 slice-aggregate-write-cap : tie.Need-slice-aggregate-write-cap
-slice-aggregate-write-cap c = search needs
+slice-aggregate-write-cap c = let f = carrying (c .before .before .before .before) in search needs
+
+slice-aggregate-write-cap-2 : tie.Need-slice-aggregate-write-cap-2
+slice-aggregate-write-cap-2 c = search needs
 
 write-cap-requires : tie.Need-write-cap-requires
-write-cap-requires c κs = let f = c .before .before .before .before .before .before .before .before .before in
-    let pole = c .before .before .before .before .put-point .kept .0 in
-    (omega (arith, room (entry f)), f .before .before .fill-directions .ensures)
+write-cap-requires c κs = let p = c .before .before .before .before .before in
+    let f = carrying p in
+    let same = p .put-point .kept .0 in
+    (omega (arith, room (entry f)), turns f .fill-turns .ensures)
 
 add-write-inner : tie.Need-add-write-inner
-add-write-inner c = let s = entry (carrying (c .before .before .before)) in omega (arith, room s)
+add-write-inner c = let s = entry (carrying (pole (c .before .before .before))) in omega (arith, room s)
 
 slice-aggregate-write-inner : tie.Need-slice-aggregate-write-inner
-slice-aggregate-write-inner c = let f = carrying (c .before .before .before .before) in search needs
+slice-aggregate-write-inner c = search needs
+
+slice-aggregate-write-inner-2 : tie.Need-slice-aggregate-write-inner-2
+slice-aggregate-write-inner-2 c = let f = carrying (pole (c .before .before .before .before .before)) in search needs
+
+slice-aggregate-write-inner-3 : tie.Need-slice-aggregate-write-inner-3
+slice-aggregate-write-inner-3 c = let f = carrying (pole (c .before .before .before .before .before .before)) in search needs
 
 write-inner-requires : tie.Need-write-inner-requires
-write-inner-requires c κs = let k = c .before .before .before .before in
-    let f = carrying k in
+write-inner-requires c κs = let k = c .before .before .before .before .before .before in
+    let p = pole k in
+    let f = carrying p in
     let s = entry f in
-    let same = k .write-cap .kept .0 ∙ k .before .before .before .before .before .put-point .kept .0 in
-    ((s .before .pre .segment, f .first .ensures), (omega (arith, room s), f .before .before .fill-directions .ensures))
+    let same = k .write-cap .kept .0 ∙ p .put-point .kept .0 in (
+      (s .pre .0 .1 .segment, start f),
+      (
+        (s .pre .1, written-framez (s .args .m) (now (s .args .curve)) (now (s .args .directions)) (s .pre .1) (framez f .fill-framez .ensures)),
+        (omega (arith, room s), turns f .fill-turns .ensures),
+      ),
+    )
 
 axes-on-requires-2 : tie.Need-axes-on-requires-2
 axes-on-requires-2 c κs = search needs
 
 add-top : tie.Need-add-top
-add-top c = let s = entry (carrying (c .before .before .before .before .before .before .before .before)) in omega (arith, room s)
+add-top c = let s = entry (carrying (pole (c .before .before .before .before .before .before .before .before .before .before))) in omega (arith, room s)
 
 sub-top : tie.Need-sub-top
-sub-top c = let s = entry (carrying (c .before .before .before .before .before .before .before .before)) in omega (arith, room s)
+sub-top c = let s = entry (carrying (pole (c .before .before .before .before .before .before .before .before .before .before))) in omega (arith, room s)
 
 mul-top : tie.Need-mul-top
-mul-top c = let s = entry (carrying (c .before .before .before .before .before .before .before .before)) in omega (arith, room s)
+mul-top c = let s = entry (carrying (pole (c .before .before .before .before .before .before .before .before .before .before))) in omega (arith, room s)
 
 add-top-2 : tie.Need-add-top-2
-add-top-2 c = let s = entry (carrying (c .before .before .before .before .before .before .before .before)) in omega (arith, room s)
+add-top-2 c = let s = entry (carrying (pole (c .before .before .before .before .before .before .before .before .before .before))) in omega (arith, room s)
 
-slice-aggregate-write-cap-2 : tie.Need-slice-aggregate-write-cap-2
-slice-aggregate-write-cap-2 c = let f = carrying (c .before .before .before .before .before .before .before .before .before .before) in search needs
+slice-aggregate-write-cap-3 : tie.Need-slice-aggregate-write-cap-3
+slice-aggregate-write-cap-3 c = let f = carrying (pole (c .before .before .before .before .before .before .before .before .before .before .before .before)) in search needs
+
+slice-aggregate-write-cap-4 : tie.Need-slice-aggregate-write-cap-4
+slice-aggregate-write-cap-4 c = let f = carrying (pole (c .before .before .before .before .before .before .before .before .before .before .before .before .before)) in search needs
 
 write-cap-requires-2 : tie.Need-write-cap-requires-2
-write-cap-requires-2 c κs = let e = c .before .before .before .before .before in
-    let k = e .before .before .before .before .before in
-    let f = carrying k in
-    let same = e .write-inner .kept .0 ∙ k .write-cap .kept .0 ∙ k .before .before .before .before .before .put-point .kept .0 in
-    (omega (arith, room (entry f)), f .before .before .fill-directions .ensures)
+write-cap-requires-2 c κs = let e = c .before .before .before .before .before .before in
+    let k = e .before .before .before .before .before .before .before in
+    let p = pole k in
+    let f = carrying p in
+    let same = e .write-inner .kept .0 ∙ k .write-cap .kept .0 ∙ p .put-point .kept .0 in
+    (omega (arith, room (entry f)), turns f .fill-turns .ensures)
 
 add-put-point : tie.Need-add-put-point
-add-put-point c = let e = c .before .before .before .before .before .before .before .before .before in
-    let s = entry (carrying (e .before .before .before .before .before)) in
+add-put-point c = let e = c .before .before .before .before .before .before .before .before .before .before in
+    let s = entry (carrying (pole (e .before .before .before .before .before .before .before))) in
     omega (arith, room s)
 
 scale-requires-2 : tie.Need-scale-requires-2
@@ -145,63 +192,73 @@ add-requires c κs = search needs
 
 put-point-requires-2 : tie.Need-put-point-requires-2
 put-point-requires-2 c κs = let t = c .before .before .before .before .before in
-    let e = t .before .before .before .before .before .before in
-    let k = e .before .before .before .before .before in
-    let same = t .write-cap2 .kept .0 ∙ e .write-inner .kept .0 ∙ k .write-cap .kept .0 ∙ k .before .before .before .before .before .put-point .kept .0 in
-    omega (arith, room (entry (carrying k)))
+    let e = t .before .before .before .before .before .before .before in
+    let k = e .before .before .before .before .before .before .before in
+    let p = pole k in
+    let same = t .write-cap2 .kept .0 ∙ e .write-inner .kept .0 ∙ k .write-cap .kept .0 ∙ p .put-point .kept .0 in
+    omega (arith, room (entry (carrying p)))
 
 same-length : tie.Need-same-length
-same-length c = let t = c .before .before .before .before .before .before .before .before in
-    let e = t .before .before .before .before .before .before in
-    let k = e .before .before .before .before .before in
-    c .before .before .put-point2 .kept .0 ∙ t .write-cap2 .kept .0 ∙ e .write-inner .kept .0 ∙ k .write-cap .kept .0
-    ∙ k .before .before .before .before .before .put-point .kept .0
+same-length c = let q = c .before .before in
+    let t = q .before .before .before .before .before .before in
+    let e = t .before .before .before .before .before .before .before in
+    let k = e .before .before .before .before .before .before .before in
+    q .put-point2 .kept .0 ∙ t .write-cap2 .kept .0 ∙ e .write-inner .kept .0 ∙ k .write-cap .kept .0 ∙ pole k .put-point .kept .0
 
 returns : tie.Need-returns
 unfolding bottomPole topPole
-returns c = let q = c .before .before .before in
-    let t = q .before .before .before .before .before in
-    let y = t .before .before .before in
+returns c = let q = c .before .before in
+    let t = q .before .before .before .before .before .before in
+    let y = t .before .before .before .before in
     let e = y .before .before .before in
-    let k = e .before .before .before .before .before in
-    let p = k .before .before .before .before .before in
+    let k = e .before .before .before .before .before .before .before in
+    let p = pole k in
     let x = p .before .before .before .before in
     let f = x .before in
-    let s = entry f .before in
+    let s = entry f in
     let a = s .args in
     let m = a .m in
     let curve = now (a .curve) in
+    let segment = s .pre .0 .1 .segment in
     five-written (a .n) (a .longitudes) (a .r) m curve (now (a .out))
-    (axes-first Open m curve (s .pre .segment) (f .first .ensures) (x .axes-on .ensures))
+    (axes-first Open m curve segment (start f) (x .axes-on .ensures))
     (p .before .sub .ensures ∙ ap (differenceOf (x .axes-on .result .origin)) (p .before .before .scale .ensures))
-    (axes-last m curve (s .pre .segment) (e .write-inner .ensures .0) (y .axes-on2 .ensures))
-    (q .add .ensures ∙ ap (sumOf (y .axes-on2 .result .origin)) (q .before .scale2 .ensures))
-    (p .put-point .ensures) (k .write-cap .ensures) (e .write-inner .ensures .1) (t .write-cap2 .ensures) (c .before .before .put-point2 .ensures)
+    (axes-last m curve segment (e .write-inner .ensures .0) (y .axes-on2 .ensures))
+    (q .before .add .ensures ∙ ap (sumOf (y .axes-on2 .result .origin)) (q .before .before .scale2 .ensures))
+    (p .put-point .ensures) (k .write-cap .ensures) (e .write-inner .ensures .1) (t .write-cap2 .ensures) (q .put-point2 .ensures)
 
 pub to-trimesh3-capsule-spec : {M : Type 1} → statement M
 to-trimesh3-capsule-spec =
     tie.close
     (tie.spec
-    slice-aggregate-fill-directions
-    fill-directions-requires
+    slice-aggregate-fill-turns
+    slice-aggregate-fill-turns-2
+    fill-turns-requires
+    slice-aggregate-fill-framez
+    fill-framez-requires
     mul-size
     mul-cap
+    point-requires
     first-requires
     axes-on-requires
     scale-requires
     sub-requires
     put-point-requires
     slice-aggregate-write-cap
+    slice-aggregate-write-cap-2
     write-cap-requires
     add-write-inner
     slice-aggregate-write-inner
+    slice-aggregate-write-inner-2
+    slice-aggregate-write-inner-3
     write-inner-requires
     axes-on-requires-2
     add-top
     sub-top
     mul-top
     add-top-2
-    slice-aggregate-write-cap-2
+    slice-aggregate-write-cap-3
+    slice-aggregate-write-cap-4
     write-cap-requires-2
     add-put-point
     scale-requires-2

@@ -12,11 +12,14 @@ use borrow.Author.Needs.{needs}
 use Rattle.bodies.proofs.trimesh3_primitive.cylinder_closed_end_yup.Statement.{statement}
 use Rattle.bodies.proofs.trimesh3_primitive.cylinder_closed_end_yup.Tie as tie
 
-slice-aggregate-fill-directions : tie.Need-slice-aggregate-fill-directions
-slice-aggregate-fill-directions c = search needs
+slice-aggregate-fill-turns : tie.Need-slice-aggregate-fill-turns
+slice-aggregate-fill-turns c = search needs
 
-fill-directions-requires : tie.Need-fill-directions-requires
-fill-directions-requires c κs = search needs
+slice-aggregate-fill-turns-2 : tie.Need-slice-aggregate-fill-turns-2
+slice-aggregate-fill-turns-2 c = search needs
+
+fill-turns-requires : tie.Need-fill-turns-requires
+fill-turns-requires c κs = search needs
 
 low-requires : tie.Need-low-requires
 low-requires c κs = search needs
@@ -39,6 +42,9 @@ put-point-requires c κs = search needs
 slice-aggregate-write-levels : tie.Need-slice-aggregate-write-levels
 slice-aggregate-write-levels c = search needs
 
+slice-aggregate-write-levels-2 : tie.Need-slice-aggregate-write-levels-2
+slice-aggregate-write-levels-2 c = search needs
+
 write-levels-requires : tie.Need-write-levels-requires
 write-levels-requires c κs = search needs
 
@@ -49,22 +55,25 @@ same-length : tie.Need-same-length
 same-length c = search needs
 
 returns : tie.Need-returns
-returns c = let w = c .before .before .before .before .before .before .before .before .before .before .before .before .before .low in
-    let a = c .before .before .before .before .before .before .before .before .before .before .before .before .before .before .before .before .before .before .args in
-    let first = c .before .before .before .before .before .before .before .before .before .before .before .put-point in
+returns c = let q = c .before .before in
+    let m = q .before .before .before .before in
+    let p = m .before .before .before .before .before .before in
+    let low = p .before .before in
+    let a = low .before .before .before .before .before .before .before .args in
+    let w = low .low in
     let rings = cylinderRings (a .radius) (w .result) (a .height) (a .layers) (a .n) in
     let top = coordinates (pole (plus (w .result) (a .height))) in
     let size = length-rings (levelVertex (a .radius) (w .result) (a .height) (a .layers)) (a .layers + 1) (a .n) in
-    let middle = c .before .before .before .before .before .before .write-levels in
-    let above = written-behind 3 rings top (first .last .0) (middle .ensures) size (c .before .before .put-point2 .ensures) in
-    rw (← w .ensures) (written-behind 0 (coordinates (pole (w .result))) (rings ++ top) (now (a .out)) (first .ensures) refl above)
+    let above = written-behind 3 rings top (p .put-point .last .0) (m .write-levels .ensures) size (q .put-point2 .ensures) in
+    rw (← w .ensures) (written-behind 0 (coordinates (pole (w .result))) (rings ++ top) (now (a .out)) (p .put-point .ensures) refl above)
 
 pub cylinder-closed-end-yup-spec : {M : Type 1} → statement M
 cylinder-closed-end-yup-spec =
     tie.close
     (tie.spec
-    slice-aggregate-fill-directions
-    fill-directions-requires
+    slice-aggregate-fill-turns
+    slice-aggregate-fill-turns-2
+    fill-turns-requires
     low-requires
     add-top
     mul-top
@@ -72,6 +81,7 @@ cylinder-closed-end-yup-spec =
     add-top-2
     put-point-requires
     slice-aggregate-write-levels
+    slice-aggregate-write-levels-2
     write-levels-requires
     put-point-requires-2
     same-length

@@ -8,7 +8,7 @@ use lib.ListN.{length}
 use Rattle.kinds.specs.Kinds.{vertexCount}
 use Rattle.descriptions.specs.Answers.{accepted}
 use Rattle.descriptions.specs.Descriptions.{topologyOf}
-use Rattle.descriptions.specs.Refusals.{shapeTests, shapeOf}
+use Rattle.descriptions.specs.Refusals.{ShapePermitted, shapeTests, shapeOf}
 use Rattle.descriptions.proofs.FirstOf.{accepted-by}
 use Rattle.descriptions.proofs.Shapes.{counts-most, accepted-permitted}
 use Rattle.bodies.proofs.Drawable.{same-count, drawn, not-whole, not-shaped, no-room}
@@ -59,13 +59,28 @@ returns-2 c = let b = c .before .before .before in
     let short = count (c .before) (λ k. length (now (a .out)) < k) (c .if2 .taken) in
     (sym (no-room (a .description) (now (a .curve)) (length (now (a .out))) (b .before .before .before .if1 .left) (answer b) short), refl)
 
+slice-aggregate-fill-along : tie.Need-slice-aggregate-fill-along
+slice-aggregate-fill-along c = search needs
+
+-- the shape is permitted
+shaped : (b : tie.After-body) → ShapePermitted (start b .args .description) (N (start b))
+shaped b = let s = start b in accepted-by (shapeTests (s .args .description) (N s)) (topologyOf (s .args .description) (N s)) (answer b) .1
+
+fill-along-requires : tie.Need-fill-along-requires
+fill-along-requires c κs = let b = c .before .before .before .before in (shaped b, omega arith)
+
+slice-aggregate-fill : tie.Need-slice-aggregate-fill
+slice-aggregate-fill c = search needs
+
 fill-requires : tie.Need-fill-requires
-fill-requires c κs = let b = c .before .before .before .before in
+fill-requires c κs = let f = c .before .before .before in
+    let e = f .before .before in
+    let b = e .before .before .before in
     let s = start b in
     let a = s .args in
-    let fits = count (c .before .before) (λ k. k ≤ length (now (a .out))) (c .before .if2 .left) in (
-      accepted-by (shapeTests (a .description) (N s)) (topologyOf (a .description) (N s)) (answer b) .1,
-      subst (λ (k : ℕ). k ≤ length (now (a .out))) (same-count (a .description) (now (a .curve)) (length (now (a .out))) (answer b)) fits,
+    let fits = count (e .before) (λ k. k ≤ length (now (a .out))) (e .if2 .left) in (
+      shaped b,
+      (subst (λ (k : ℕ). k ≤ length (now (a .out))) (same-count (a .description) (now (a .curve)) (length (now (a .out))) (answer b)) fits, f .fill-along .ensures),
     )
 
 returns-3 : tie.Need-returns-3
@@ -77,7 +92,7 @@ same-length : tie.Need-same-length
 same-length c = search needs
 
 returns-4 : tie.Need-returns-4
-returns-4 c = let e = c .before .before .before .before in
+returns-4 c = let e = c .before .before .before .before .before .before .before .before in
     let b = e .before .before .before in
     let a = start b .args in
     let fits = count (e .before) (λ k. k ≤ length (now (a .out))) (e .if2 .left) in (
@@ -96,6 +111,9 @@ write-vertices-spec =
     vertex-count-requires
     mul-if2
     returns-2
+    slice-aggregate-fill-along
+    fill-along-requires
+    slice-aggregate-fill
     fill-requires
     returns-3
     same-length

@@ -1,18 +1,27 @@
 -- The terms are added in the order of the definition. Assumes nothing.
 use borrow.Author.Needs.{needs}
 use Rattle.rings.specs.Rings.{exFirst}
-use Rattle.rings.proofs.Terms.{both-terms}
+use Rattle.rings.proofs.Terms.{one-term, both-terms}
 use Rattle.rings.proofs.ring.Ring.ex_first.Statement.{statement}
 use Rattle.rings.proofs.ring.Ring.ex_first.Tie as tie
 
-scale-requires : tie.Need-scale-requires
-scale-requires c κs = search needs
+thrice-requires : tie.Need-thrice-requires
+thrice-requires c κs = search needs
+
+product-requires : tie.Need-product-requires
+product-requires c κs = search needs
+
+product-requires-2 : tie.Need-product-requires-2
+product-requires-2 c κs = search needs
 
 add-requires : tie.Need-add-requires
 add-requires c κs = search needs
 
-scale-requires-2 : tie.Need-scale-requires-2
-scale-requires-2 c κs = search needs
+product-requires-3 : tie.Need-product-requires-3
+product-requires-3 c κs = search needs
+
+product-requires-4 : tie.Need-product-requires-4
+product-requires-4 c κs = search needs
 
 add-requires-2 : tie.Need-add-requires-2
 add-requires-2 c κs = search needs
@@ -20,10 +29,23 @@ add-requires-2 c κs = search needs
 returns : tie.Need-returns
 unfolding exFirst
 returns c =
-    let sum = c .before .before .before .before in
-    let k = sum .before .before .before .before .args .self in
-    both-terms (k .centre) (sum .before .scale .ensures) (sum .add .ensures) (c .before .scale2 .ensures) (c .add2 .ensures)
+    let sum = c .before .before .before in
+    let radius = sum .before .before .before in
+    let a = radius .before .args in
+    let k = a .self in
+    let first = one-term (k .ex) (a .sin) (k .radius) (radius .thrice .ensures) (sum .before .before .product .ensures) (sum .before .product2 .ensures) in
+    let second = one-term (k .ey) (a .cos) (k .radius) (radius .thrice .ensures) (c .before .before .product3 .ensures) (c .before .product4 .ensures) in
+    both-terms (k .centre) first (sum .add .ensures) second (c .add2 .ensures)
 
 pub ex-first-spec : {M : Type 1} → statement M
 ex-first-spec =
-    tie.close (tie.spec scale-requires add-requires scale-requires-2 add-requires-2 returns)
+    tie.close
+    (tie.spec
+    thrice-requires
+    product-requires
+    product-requires-2
+    add-requires
+    product-requires-3
+    product-requires-4
+    add-requires-2
+    returns)

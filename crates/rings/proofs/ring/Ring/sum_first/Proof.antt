@@ -7,17 +7,17 @@ use Rattle.rings.specs.Rings.{sumFirst}
 use Rattle.rings.proofs.ring.Ring.sum_first.Statement.{statement}
 use Rattle.rings.proofs.ring.Ring.sum_first.Tie as tie
 
-scale-requires : tie.Need-scale-requires
-scale-requires c κs = search needs
+product-requires : tie.Need-product-requires
+product-requires c κs = search needs
 
-scale-requires-2 : tie.Need-scale-requires-2
-scale-requires-2 c κs = search needs
+product-requires-2 : tie.Need-product-requires-2
+product-requires-2 c κs = search needs
 
 add-requires : tie.Need-add-requires
 add-requires c κs = search needs
 
-scale-requires-3 : tie.Need-scale-requires-3
-scale-requires-3 c κs = search needs
+scale-requires : tie.Need-scale-requires
+scale-requires c κs = search needs
 
 add-requires-2 : tie.Need-add-requires-2
 add-requires-2 c κs = search needs
@@ -27,12 +27,12 @@ unfolding sumFirst
 returns c =
     let both = c .before .before in
     let k = both .before .before .before .args .self in
-    let first = both .before .before .scale .ensures in
-    let second = both .before .scale2 .ensures in
+    let first = both .before .before .product .ensures in
+    let second = both .before .product2 .ensures in
     let sum = both .add .ensures ∙ (λ i. sumOf (first i) (second i)) in
-    c .add2 .ensures ∙ ap (sumOf (k .centre)) (c .before .scale3 .ensures ∙ ap (λ (p : Point). scaled p (k .radius)) sum)
+    c .add2 .ensures ∙ ap (sumOf (k .centre)) (c .before .scale .ensures ∙ ap (λ (p : Point). scaled p (k .radius)) sum)
 
 pub sum-first-spec : {M : Type 1} → statement M
 sum-first-spec =
     tie.close
-    (tie.spec scale-requires scale-requires-2 add-requires scale-requires-3 add-requires-2 returns)
+    (tie.spec product-requires product-requires-2 add-requires scale-requires add-requires-2 returns)

@@ -1,7 +1,7 @@
 -- Each order of terms answers for its own case. Assumes nothing.
 use mathlib.Core.Path.{_≡_, sym, ap, _∙_}
 use borrow.Author.Needs.{needs}
-use Rattle.rings.specs.Rings.{ringVertex}
+use Rattle.rings.specs.Rings.{inOrder}
 use Rattle.rings.specs.declared.ring.Order.{Order}
 use Rattle.rings.proofs.ring.Ring.vertex.Statement.{statement}
 use Rattle.rings.proofs.ring.Ring.vertex.Tie as tie
@@ -24,15 +24,9 @@ enum-told-3 c = search needs
 sum-first-requires : tie.Need-sum-first-requires
 sum-first-requires c κs = search needs
 
-enum-told-4 : tie.Need-enum-told-4
-enum-told-4 c = search needs
-
-level-requires : tie.Need-level-requires
-level-requires c κs = search needs
-
--- a ring's vertex is that of the order that the match told
-told : (s : tie.Start) {order : Order} → s .args .self .order ≡ order → ringVertex order (s .args .self) (s .args .d) ≡ ringVertex (s .args .self .order) (s .args .self) (s .args .d)
-told s is = ap (λ (o : Order). ringVertex o (s .args .self) (s .args .d)) (sym is)
+-- a ring answers for the order that the match told
+told : (s : tie.Start) {order : Order} → s .args .self .order ≡ order → inOrder order (s .args .self) (s .args .cos) (s .args .sin) ≡ inOrder (s .args .self .order) (s .args .self) (s .args .cos) (s .args .sin)
+told s is = ap (λ (o : Order). inOrder o (s .args .self) (s .args .cos) (s .args .sin)) (sym is)
 
 returns : tie.Need-returns
 returns c = c .ey-first .ensures ∙ told (c .before .before .before) (c .before .enum-told .given .1)
@@ -42,9 +36,6 @@ returns-2 c = c .ex-first .ensures ∙ told (c .before .before .before) (c .befo
 
 returns-3 : tie.Need-returns-3
 returns-3 c = c .sum-first .ensures ∙ told (c .before .before .before) (c .before .enum-told3 .given .1)
-
-returns-4 : tie.Need-returns-4
-returns-4 c = c .level .ensures ∙ told (c .before .before .before) (c .before .enum-told4 .given .1)
 
 pub vertex-spec : {M : Type 1} → statement M
 vertex-spec =
@@ -56,9 +47,6 @@ vertex-spec =
     ex-first-requires
     enum-told-3
     sum-first-requires
-    enum-told-4
-    level-requires
     returns
     returns-2
-    returns-3
-    returns-4)
+    returns-3)

@@ -4,8 +4,8 @@ use lib.ListN.{length-set}
 use native.Mathlib.Omega.{arith}
 use Rattle.laws.specs.Overwrite.{three-stores}
 use borrow.Author.Needs.{needs}
-use Rattle.bodies.proofs.ring_writer.put_point.Statement.{statement}
-use Rattle.bodies.proofs.ring_writer.put_point.Tie as tie
+use Rattle.bodies.proofs.points.put_point.Statement.{statement}
+use Rattle.bodies.proofs.points.put_point.Tie as tie
 
 mul-out : tie.Need-mul-out
 mul-out c = search needs
