@@ -1,10 +1,10 @@
 -- A list made of blocks, one after the other ("for j from 0", "each layer g and each i" of document 01, 'Triangle lists'), and the law of
 -- every loop that writes one. Assumes nothing.
 use mathlib.Core.Path.{_≡_, refl, sym, ap, _∙_}
-use mathlib.Core.List.{List, [], _∷_, _++_, map, append-nil, append-assoc}
+use mathlib.Core.List.{List, [], _∷_, _++_, map, append-nil, append-assoc, map-append}
 use mathlib.Core.Logic.{⊎-elim}
 use Prim.Native.Nat.{ℕ, zero, suc, _+_, _-_, _*_, _≤_, _<_}
-use native.Mathlib.Nat.{suc-mul, zero-add, not-suc-le-zero, le-of-suc-le-suc, eq-or-lt-of-le}
+use native.Mathlib.Nat.{suc-mul, zero-add, add-zero, add-suc, not-suc-le-zero, le-of-suc-le-suc, eq-or-lt-of-le}
 use native.Mathlib.Numerals.{add-one}
 use native.Mathlib.Omega.{arith}
 use lib.ListN.{length, getD, take, length-append, List·getD-append}
@@ -39,6 +39,14 @@ module _ {ℓ} {A : Type ℓ} where
       ∙ ap (λ (k : ℕ). blocks k f ++ f k) (sym (add-one n))
       ∙ ap (λ (l : List A). l ++ f (n + 1)) (blocks-first n f)
       ∙ append-assoc (f 0) (blocks n (λ k. f (k + 1))) (f (n + 1))
+
+  -- the first p blocks, and the n others behind them
+  pub blocks-split : (p n : ℕ) (f : ℕ → List A) → blocks (p + n) f ≡ blocks p f ++ blocks n (λ k. f (p + k))
+  blocks-split p zero f = ap (λ (k : ℕ). blocks k f) (add-zero p) ∙ sym (append-nil (blocks p f))
+  blocks-split p (suc n) f =
+      ap (λ (k : ℕ). blocks k f) (add-suc p n)
+      ∙ ap (λ (l : List A). l ++ f (p + n)) (blocks-split p n f)
+      ∙ append-assoc (blocks p f) (blocks n (λ k. f (p + k))) (f (p + n))
 
   -- element k of block i, where each block has c elements
   pub getD-blocks : (c n : ℕ) (f : ℕ → List A) (i k p : ℕ) (d : A) → ((j : ℕ) → length (f j) ≡ c) → i < n → k < c → p ≡ i * c + k
@@ -81,6 +89,10 @@ module _ {ℓ} {A : Type ℓ} where
       ∙ ap (λ (l : List A). overwrite 0 l t₀) (sym (blocks-first (n - 1) f) ∙ ap (λ (k : ℕ). blocks k f) e)
 
 module _ {ℓ ℓ′} {A : Type ℓ} {B : Type ℓ′} where
+  pub map-blocks : (h : A → B) (n : ℕ) (f : ℕ → List A) → map h (blocks n f) ≡ blocks n (λ k. map h (f k))
+  map-blocks h zero f = refl
+  map-blocks h (suc n) f = map-append h (blocks n f) (f n) ∙ ap (λ (l : List B). l ++ map h (f n)) (map-blocks h n f)
+
   -- what a loop that makes element i of element i leaves
   pub blocks-map : (f : A → B) (l : List A) (d : A) → blocks (length l) (λ i. f (getD l i d) ∷ []) ≡ map f l
   blocks-map f [] d = refl

@@ -1,5 +1,6 @@
 pub mod Chains
 pub mod Flatten
+pub mod Copies
 pub mod Pieces
 pub mod Counts
 pub mod Room
