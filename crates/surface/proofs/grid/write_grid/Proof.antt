@@ -1,85 +1,136 @@
+-- The rows whose rings follow one another, and behind them the last row of a closed grid. Assumes nothing.
+use mathlib.Core.Path.{_≡_, sym, ap, _∙_}
+use mathlib.Core.List.{List}
+use Prim.Native.Nat.{ℕ, _+_, _*_, _^_, _≤_, _<_}
+use native.Mathlib.Nat.{mul-assoc, mul-le-mul-right}
+use native.Mathlib.Omega.{arith}
 use borrow.Author.Needs.{needs}
+use denote.Ref.{now}
+use lib.ListN.{length}
+use Rattle.laws.specs.Overwrite.{overwrite, written-behind}
+use Rattle.laws.specs.Products.{row-within}
+use Rattle.surface.specs.Triangles.{Triangle, flatten}
+use Rattle.surface.specs.Grid.{straightOf, rowTriangles, gridTriangles}
+use Rattle.surface.specs.Whole.{chainOf, ringCount, ringSize}
+use Rattle.surface.specs.declared.grid.Chain.the-variants.{Open}
+use Rattle.surface.proofs.Chains.{straight-bounds}
+use Rattle.surface.proofs.Flatten.{flatten-append}
+use Rattle.surface.proofs.Pieces.{length-grid}
+use Rattle.surface.proofs.Rows.{none-left, one-left}
 use Rattle.surface.proofs.grid.write_grid.Statement.{statement}
 use Rattle.surface.proofs.grid.write_grid.Tie as tie
-use Rattle.surface.proofs.grid.write_grid.Reads as reads
-use Rattle.surface.proofs.grid.write_grid.Lts as lts
-use Rattle.surface.proofs.grid.straight.Reads as straight-reads
-use Rattle.surface.proofs.grid.write_row.Reads as write-row-reads
-use Rattle.surface.proofs.grid.write_rows.Reads as write-rows-reads
-use Rattle.surface.proofs.whole.Along.chain.Reads as chain-reads
-use Rattle.surface.proofs.whole.Surface.ring_size.Reads as ring-size-reads
 
--- src/grid.rt:91:16
+ahead : (c : tie.After-straight) → let s = c .before .before .before .before .before .args .s in c .straight .result ≡ straightOf (chainOf (s .along)) (s .rows)
+ahead c = let s = c .before .before .before .before .before .args .s in
+    c .straight .ensures ∙ ap (λ k. straightOf k (s .rows)) (c .before .chain .ensures)
+
+-- the numbers and the places are within bounds
+room : (c : tie.After-straight) → let a = c .before .before .before .before .before .args in
+    let s = a .s in
+    let k = c .straight .result in
+    (k ≤ s .rows) × (k * s .columns ≤ s .rows * s .columns) × (0 < s .rows → a .base + (k + 1) * ringSize s ≤ 2 ^ 28)
+room c = let a = c .before .before .before .before .before .args in
+    let s = a .s in
+    let k = c .straight .result in
+    let e = ahead c in
+    let bounds = straight-bounds (chainOf (s .along)) (s .rows) in
+    let some : k ≤ s .rows = omega arith in
+    let p = c .before .before .before .before .before .pre .numbers in
+    (some, mul-le-mul-right (s .columns) some, λ h.
+    let rings : k + 1 ≤ ringCount s = omega (arith, bounds .1 h) in
+    omega (arith, mul-le-mul-right (ringSize s) rings))
+
+-- and so are those of the row that leads back
+last : (c : tie.After-straight) → let a = c .before .before .before .before .before .args in
+    let s = a .s in
+    let k = c .straight .result in
+    k < s .rows → (a .at + k * s .columns * 6 + s .columns * 6 ≤ length (now (a .out))) × (a .base + (k + 1) * ringSize s ≤ 2 ^ 28)
+last c less = let a = c .before .before .before .before .before .args in
+    let s = a .s in
+    (omega (arith, row-within (c .straight .result) (s .rows) (s .columns) less), room c .2 (omega arith))
+
 cast-rows : tie.Need-cast-rows
 cast-rows c = search needs
 
--- src/grid.rt:92:19
 cast-columns : tie.Need-cast-columns
 cast-columns c = search needs
 
--- src/grid.rt:93:26
 chain-requires : tie.Need-chain-requires
 chain-requires c κs = search needs
 
--- src/grid.rt:93:9
 straight-requires : tie.Need-straight-requires
 straight-requires c κs = search needs
 
--- src/grid.rt:94:5
 write-rows-requires : tie.Need-write-rows-requires
-write-rows-requires c κs = ?
+write-rows-requires c κs = let f = room (c .before) in record { numbers = λ h. f .2 (omega arith); within = omega arith }
 
--- src/grid.rt:96:26
 cast-place : tie.Need-cast-place
 cast-place c = search needs
 
--- src/grid.rt:96:43
 cast-place-2 : tie.Need-cast-place-2
 cast-place-2 c = search needs
 
--- src/grid.rt:96:26
 mul-place : tie.Need-mul-place
-mul-place c = ?
+mul-place c = omega (arith, room (c .before .before .before .before .before))
 
--- src/grid.rt:96:26
 mul-place-2 : tie.Need-mul-place-2
-mul-place-2 c = ?
+mul-place-2 c = omega (arith, room (c .before .before .before .before .before))
 
--- src/grid.rt:96:21
 add-place : tie.Need-add-place
-add-place c = ?
+add-place c = omega (arith, room (c .before .before .before .before .before))
 
--- src/grid.rt:97:34
 ring-size-requires : tie.Need-ring-size-requires
 ring-size-requires c κs = search needs
 
--- src/grid.rt:97:26
+-- how far the last ring lies behind the first
+behind : (c : tie.After-ring-size) → let s = c .before .before .before .before .before .before .before .before .before .before .before .args .s in
+    let k = c .before .before .before .before .before .before .straight .result in
+    k * c .ring-size .result ≡ k * ringSize s
+behind c = let k = c .before .before .before .before .before .before .straight .result in ap (λ (w : ℕ). k * w) (c .ring-size .ensures)
+
 mul-low : tie.Need-mul-low
-mul-low c = ?
+mul-low c = let f = last (c .before .before .before .before .before .before) (omega arith) in omega (arith, behind c)
 
--- src/grid.rt:97:19
 add-low : tie.Need-add-low
-add-low c = ?
+add-low c = let f = last (c .before .before .before .before .before .before) (omega arith) in omega (arith, behind c)
 
--- src/grid.rt:98:9
 write-row-requires : tie.Need-write-row-requires
-write-row-requires c κs = ?
+write-row-requires c κs =
+    let f = last (c .before .before .before .before .before .before .before) (omega arith) in
+    let b = behind (c .before) in
+    record { low-numbers = omega arith; high-numbers = omega arith; within = omega arith }
 
--- src/grid.rt:84:1
 same-length : tie.Need-same-length
 same-length c = search needs
 
--- src/grid.rt:84:1
 returns : tie.Need-returns
-returns c = ?
+returns c = let r = c .before .before .before .before in
+    let m = r .before .before .before .before .before .before in
+    let a = m .before .before .before .before .before .args in
+    let s = a .s in
+    let k = m .straight .result in
+    let rows = gridTriangles (s .split) Open k (s .round) (s .columns) (a .base) in
+    let row = rowTriangles (s .split) (s .round) (s .columns) (a .base + k * ringSize s) (a .base) in
+    let first = r .before .before .before .before .write-rows in
+    let place : a .at + k * s .columns * 6 ≡ a .at + k * (s .columns * 6) = ap (λ (p : ℕ). a .at + p) (mul-assoc k (s .columns) 6) in
+    written-behind (a .at) (flatten rows) (flatten row) (now (a .out)) (first .ensures)
+    (length-grid (s .split) (s .round) (s .columns) Open k (a .base))
+    (c .before .before .write-row .ensures
+    ∙ (λ i. overwrite (place i) (flatten (rowTriangles (s .split) (s .round) (s .columns) (a .base + behind r i) (a .base))) (first .last .0)))
+    ∙ ap (λ (l : List ℕ). overwrite (a .at) l (now (a .out)))
+    (sym (flatten-append rows row)
+    ∙ ap flatten (one-left (s .split) (s .round) (s .columns) (chainOf (s .along)) (s .rows) (a .base) k (ahead m) (omega arith)))
 
--- src/grid.rt:84:1
 same-length-2 : tie.Need-same-length-2
 same-length-2 c = search needs
 
--- src/grid.rt:84:1
 returns-2 : tie.Need-returns-2
-returns-2 c = ?
+returns-2 c = let m = c .before .before .before .before .before in
+    let a = m .before .before .before .before .before .args in
+    let s = a .s in
+    c .before .before .before .write-rows .ensures
+    ∙ ap (λ (ts : List Triangle). overwrite (a .at) (flatten ts) (now (a .out)))
+    (none-left (s .split) (s .round) (s .columns) (chainOf (s .along)) (s .rows) (a .base) (m .straight .result) (ahead m) (omega arith))
 
 pub write-grid-spec : {M : Type 1} → statement M
 write-grid-spec =
