@@ -94,7 +94,7 @@ module _ (split : Split) (round : Chain) (n : ℕ) where
       let w = pointsOf round n in
       let all = flatten (blocks m f) in
       let is : blocks m (copyOf w (firstRow base)) ≡ all =
-          blocks-cong m (copyOf w (firstRow base)) (numbers f) (λ g _. copied-row m base g) ∙ sym (flatten-blocks m f) in
+      blocks-cong m (copyOf w (firstRow base)) (numbers f) (λ g _. copied-row m base g) ∙ sym (flatten-blocks m f) in
       let one = length-row split round n base (base + w) in
       let sized = ap length (flatten-blocks m f) ∙ length-blocks (n * 6) m (numbers f) (λ g _. length-rowAt split round n Open m base g) in
       copies

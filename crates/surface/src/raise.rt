@@ -23,7 +23,11 @@ fn at_once(done: u32, times: u32) -> u32
     requires { ⌜ (0 < done) × (done < times) ⌝ }
     ensures { λ r. ⌜ (0 < r) × (r ≤ done) × (done + r ≤ times) ⌝ }
 {
-    if times - done < done { times - done } else { done }
+    if times - done < done {
+        times - done
+    } else {
+        done
+    }
 }
 
 // Makes `times` of the `size` numbers at place `at`, one behind the other, each the one before it raised by `rise`. All that is there is copied

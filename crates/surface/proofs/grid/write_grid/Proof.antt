@@ -35,10 +35,13 @@ room c = let a = c .before .before .before .before .before .args in
     let e = ahead c in
     let bounds = straight-bounds (chainOf (s .along)) (s .rows) in
     let some : k ≤ s .rows = omega arith in
-    let p = c .before .before .before .before .before .pre .numbers in
-    (some, mul-le-mul-right (s .columns) some, λ h.
-    let rings : k + 1 ≤ ringCount s = omega (arith, bounds .1 h) in
-    omega (arith, mul-le-mul-right (ringSize s) rings))
+    let p = c .before .before .before .before .before .pre .numbers in (
+      some,
+      mul-le-mul-right (s .columns) some,
+      λ h.
+          let rings : k + 1 ≤ ringCount s = omega (arith, bounds .1 h) in
+          omega (arith, mul-le-mul-right (ringSize s) rings),
+    )
 
 -- and so are those of the row that leads back
 last : (c : tie.After-straight) → let a = c .before .before .before .before .before .args in
