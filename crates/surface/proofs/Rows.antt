@@ -1,29 +1,25 @@
--- Rows whose rings follow one another: each is the first one raised, and its numbers are those of its rings. Assumes nothing.
+-- Rows whose rings follow one another: each is the first one raised. Assumes nothing.
 use mathlib.Core.Path.{_≡_, refl, sym, ap, _∙_, subst}
-use mathlib.Core.List.{List, _++_}
+use mathlib.Core.List.{List}
 use Prim.Native.Nat.{ℕ, _+_, _*_, _≤_, _<_}
 use native.Mathlib.Nat.{mul-le-mul-right}
-use native.Mathlib.Numerals.{add-one}
 use native.Mathlib.Omega.{arith}
 use lib.ListN.{length}
 use Rattle.laws.specs.Overwrite.{overwrite}
 use Rattle.laws.specs.Overlaps.{overwrite-cover}
-use Rattle.laws.specs.Blocks.{blocks, length-blocks, blocks-cong, map-blocks}
+use Rattle.laws.specs.Blocks.{blocks, blocks-cong, map-blocks}
 use Rattle.laws.specs.Lent.{part-written}
 use Rattle.surface.specs.Triangles.{flatten}
 use Rattle.surface.specs.Quads.{quadOf}
-use Rattle.surface.specs.Grid.{afterOf, pointsOf, straightOf, rowTriangles, gridTriangles}
+use Rattle.surface.specs.Grid.{afterOf, pointsOf, rowTriangles, gridTriangles}
 use Rattle.surface.specs.Raise.{stretch, raised, copyOf, Below}
 use Rattle.surface.specs.declared.quads.Split.{Split}
 use Rattle.surface.specs.declared.quads.Split.the-variants.{Capped, Torus, Tube, Ribbon}
 use Rattle.surface.specs.declared.grid.Chain.{Chain}
 use Rattle.surface.specs.declared.grid.Chain.the-variants.{Open}
-use Rattle.surface.proofs.Chains.{after-lt, points-bounds, straight-bounds, straight-after, last-after}
-use Rattle.surface.proofs.Copies.{below-blocks}
+use Rattle.surface.proofs.Below.{below-row}
 use Rattle.surface.proofs.Flatten.{numbers, flatten-blocks}
-use Rattle.surface.proofs.Pieces.{quadAt, rowAt, length-row, length-rowAt}
-
--- ---- one quad
+use Rattle.surface.proofs.Pieces.{quadAt, rowAt, length-row, length-grid}
 
 raised-quad : (split : Split) (r a b d e : ℕ) → raised r (flatten (quadOf split a b d e)) ≡ flatten (quadOf split (r + a) (r + b) (r + d) (r + e))
 raised-quad Capped r a b d e = refl
@@ -31,15 +27,7 @@ raised-quad Torus r a b d e = refl
 raised-quad Tube r a b d e = refl
 raised-quad Ribbon r a b d e = refl
 
-below-quad : (split : Split) (m a b d e : ℕ) → a < m → b < m → d < m → e < m → Below m (flatten (quadOf split a b d e))
-below-quad Capped m a b d e la lb ld le = (le, (lb, (la, (ld, (le, (la, tt))))))
-below-quad Torus m a b d e la lb ld le = (la, (lb, (ld, (le, (ld, (lb, tt))))))
-below-quad Tube m a b d e la lb ld le = (la, (le, (lb, (la, (ld, (le, tt))))))
-below-quad Ribbon m a b d e la lb ld le = (la, (lb, (ld, (lb, (le, (ld, tt))))))
-
 module _ (split : Split) (round : Chain) (n : ℕ) where
-  -- ---- one row
-
   raised-row : (r low high : ℕ) → raised r (flatten (rowTriangles split round n low high)) ≡ flatten (rowTriangles split round n (r + low) (r + high))
   raised-row r low high =
       ap (λ (l : List ℕ). raised r l) (flatten-blocks n (quadAt split round n low high))
@@ -52,17 +40,6 @@ module _ (split : Split) (round : Chain) (n : ℕ) where
       let e : r + (high + j) ≡ r + high + j = omega arith in
       raised-quad split r (low + i) (low + j) (high + i) (high + j) ∙ (λ k. flatten (quadOf split (a k) (b k) (d k) (e k))))
       ∙ sym (flatten-blocks n (quadAt split round n (r + low) (r + high)))
-
-  below-row : (m low high : ℕ) → low + pointsOf round n ≤ m → high + pointsOf round n ≤ m → Below m (flatten (rowTriangles split round n low high))
-  below-row m low high l h =
-      subst (λ (r : List ℕ). Below m r) (sym (flatten-blocks n (quadAt split round n low high)))
-      (below-blocks m n (numbers (quadAt split round n low high)) (λ i less.
-      let j = afterOf round n i in
-      let here = points-bounds round n in
-      let next = after-lt round n i less in
-      below-quad split m (low + i) (low + j) (high + i) (high + j) (omega arith) (omega arith) (omega arith) (omega arith)))
-
-  -- ---- rows one behind the other
 
   abbrev pub firstRow : ℕ → List ℕ
   firstRow base = flatten (rowTriangles split round n base (base + pointsOf round n))
@@ -78,7 +55,7 @@ module _ (split : Split) (round : Chain) (n : ℕ) where
   below-copy m base g bound less h =
       let w = pointsOf round n in
       let within = mul-le-mul-right w less in
-      subst (λ (r : List ℕ). Below bound r) (sym (copied-row m base g)) (below-row bound (base + g * w) (base + (g + 1) * w) (omega arith) (omega arith))
+      subst (λ (r : List ℕ). Below bound r) (sym (copied-row m base g)) (below-row split round n bound (base + g * w) (base + (g + 1) * w) (omega arith) (omega arith))
 
   -- the first row, read back where it was written
   pub first-read : (at base : ℕ) (t₀ : List ℕ) {t : List ℕ} → t ≡ overwrite at (firstRow base) t₀ → at + n * 6 ≤ length t₀ → stretch at (n * 6) t ≡ firstRow base
@@ -96,33 +73,7 @@ module _ (split : Split) (round : Chain) (n : ℕ) where
       let is : blocks m (copyOf w (firstRow base)) ≡ all =
       blocks-cong m (copyOf w (firstRow base)) (numbers f) (λ g _. copied-row m base g) ∙ sym (flatten-blocks m f) in
       let one = length-row split round n base (base + w) in
-      let sized = ap length (flatten-blocks m f) ∙ length-blocks (n * 6) m (numbers f) (λ g _. length-rowAt split round n Open m base g) in
+      let sized = length-grid split round n Open m base in
       copies
       ∙ (λ k. overwrite at (is k) (first k))
       ∙ overwrite-cover at (firstRow base) all t₀ (omega (arith, mul-le-mul-right (n * 6) some))
-
-  -- ---- a whole grid: the rows whose rings follow one another, and a last one that leads back
-
-  straight-rows : (along : Chain) (m base k : ℕ) → k ≡ straightOf along m → gridTriangles split Open k round n base ≡ blocks k (rowAt split round n along m base)
-  straight-rows along m base k is =
-      blocks-cong k (rowAt split round n Open k base) (rowAt split round n along m base) (λ g h.
-      let next = straight-after along m g (omega arith) in
-      λ i. rowTriangles split round n (base + g * pointsOf round n) (base + next i * pointsOf round n))
-
-  pub none-left : (along : Chain) (m base k : ℕ) → k ≡ straightOf along m → m ≤ k → gridTriangles split Open k round n base ≡ gridTriangles split along m round n base
-  none-left along m base k is h =
-      let bounds = straight-bounds along m in
-      let e : k ≡ m = omega arith in
-      straight-rows along m base k is ∙ ap (λ (j : ℕ). blocks j (rowAt split round n along m base)) e
-
-  pub one-left : (along : Chain) (m base k : ℕ) → k ≡ straightOf along m → k < m
-      → gridTriangles split Open k round n base ++ rowTriangles split round n (base + k * pointsOf round n) base ≡ gridTriangles split along m round n base
-  one-left along m base k is h =
-      let f = rowAt split round n along m base in
-      let w = pointsOf round n in
-      let last = last-after along m (omega arith) in
-      let first : 0 ≡ afterOf along m k = last .1 ∙ ap (λ (j : ℕ). afterOf along m j) (sym is) in
-      let back : base ≡ base + afterOf along m k * w = omega (arith, ap (λ (j : ℕ). j * w) first) in
-      let all : k + 1 ≡ m = omega arith in
-      (λ i. straight-rows along m base k is i ++ rowTriangles split round n (base + k * w) (back i))
-      ∙ ap (λ (j : ℕ). blocks j f) (sym (add-one k) ∙ all)

@@ -16,7 +16,7 @@ use Rattle.surface.specs.declared.grid.Chain.the-variants.{Open}
 use Rattle.surface.proofs.Chains.{straight-bounds}
 use Rattle.surface.proofs.Flatten.{flatten-append}
 use Rattle.surface.proofs.Pieces.{length-grid}
-use Rattle.surface.proofs.Rows.{none-left, one-left}
+use Rattle.surface.proofs.LastRow.{none-left, one-left}
 use Rattle.surface.proofs.grid.write_grid.Statement.{statement}
 use Rattle.surface.proofs.grid.write_grid.Tie as tie
 

@@ -6,7 +6,6 @@ use native.Mathlib.Nat.{mul-le-mul-right}
 use native.Mathlib.Omega.{arith}
 use borrow.Author.Needs.{needs}
 use denote.Ref.{now}
-use lib.ListN.{length}
 use Rattle.laws.specs.Overwrite.{overwrite, overwrite-none}
 use Rattle.laws.specs.Blocks.{blocks}
 use Rattle.surface.specs.Triangles.{flatten}

@@ -3,14 +3,14 @@ use mathlib.Core.Path.{_≡_, refl, sym, ap, _∙_}
 use mathlib.Core.List.{List, [], _∷_}
 use Prim.Native.Nat.{ℕ, _+_, _-_, _^_, _≤_, _<_}
 use native.Mathlib.Omega.{arith}
-use borrow.Author.Needs.{needs}
 use denote.Ref.{now}
 use lib.ListN.{length, getD, length-set, length-map}
 use Rattle.laws.specs.Places.{getD-map}
 use Rattle.laws.specs.Overwrite.{overwrite, overwrite-none, one-store}
 use Rattle.laws.specs.Blocks.{blocks, blocks-map, one-more, all-written}
 use Rattle.surface.specs.Raise.{stretch, raised}
-use Rattle.surface.proofs.Copies.{length-stretch, read-before, below-at}
+use Rattle.surface.proofs.Below.{below-at}
+use Rattle.surface.proofs.Copies.{length-stretch, read-before}
 use Rattle.surface.proofs.raise.copy_raised.Statement.{statement}
 use Rattle.surface.proofs.raise.copy_raised.Tie as tie
 

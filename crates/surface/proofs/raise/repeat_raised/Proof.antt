@@ -10,7 +10,8 @@ use lib.ListN.{length}
 use Rattle.laws.specs.Overwrite.{overwrite}
 use Rattle.laws.specs.Blocks.{blocks, all-written}
 use Rattle.surface.specs.Raise.{stretch, raised, copyOf, Below}
-use Rattle.surface.proofs.Copies.{length-stretch, stretch-kept, below-blocks, copy-none, next-copies, copies-behind}
+use Rattle.surface.proofs.Below.{below-blocks}
+use Rattle.surface.proofs.Copies.{length-stretch, stretch-kept, copy-none, next-copies, copies-behind}
 use Rattle.surface.proofs.raise.repeat_raised.Statement.{statement}
 use Rattle.surface.proofs.raise.repeat_raised.Tie as tie
 
