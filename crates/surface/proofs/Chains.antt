@@ -17,7 +17,7 @@ pub points-bounds : (chain : Chain) (n : ℕ) → (n ≤ pointsOf chain n) × (p
 points-bounds Open n = (omega arith, omega arith)
 points-bounds Closed n = (omega arith, omega arith)
 
--- the steps to the next number are steps of the chain; and where it has a step, each begins before a point
+-- steps to the next number are no more than all; and where there is a step, there is a point more than such steps
 pub straight-bounds : (chain : Chain) (n : ℕ) → (straightOf chain n ≤ n) × (0 < n → straightOf chain n + 1 ≤ pointsOf chain n)
 straight-bounds Open n = (omega arith, λ h. omega arith)
 straight-bounds Closed n = (omega arith, λ h. omega arith)

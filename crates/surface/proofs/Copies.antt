@@ -16,7 +16,7 @@ use Rattle.surface.specs.Raise.{stretch, raised, copyOf}
 pub length-stretch : (from size : ℕ) (l : List ℕ) → from + size ≤ length l → length (stretch from size l) ≡ size
 length-stretch from size l h = length-take size (drop from l) ∙ omega (arith, length-drop from l)
 
--- what a copy reads behind its own beginning is what was there before it began
+-- number k of a stretch that lies before a write's place is read as it was
 pub read-before : (at from size k : ℕ) (new l : List ℕ) → k < size → from + k < at → getD (overwrite at new l) (from + k) 0 ≡ getD (stretch from size l) k 0
 read-before at from size k new l h b =
     getD-before at new l (from + k) 0 b ∙ sym (getD-take size (drop from l) k 0 h ∙ getD-drop from l k 0)

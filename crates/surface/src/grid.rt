@@ -65,7 +65,8 @@ fn write_row(out: &mut [u32], at: usize, split: Split, round: Chain, n: u32, low
     }
 }
 
-// Rows between rings that follow one another, from place `at` on: each is the row before it with the size of a ring added.
+// Rows between rings that follow one another, from place `at` on. The first is made of quads; each other is the one before it with the size
+// of a ring added.
 fn write_rows(out: &mut [u32], at: usize, s: Surface, rows: u32, base: u32)
     requires { ⌜ RowsFit (s .round) rows (s .columns) base at (length (now out)) ⌝ }
     ensures { λ _. ⌜ now (out .exit) ≡ overwrite at (flatten (gridTriangles (s .split) Open rows (s .round) (s .columns) base)) (now (out .entry)) ⌝ }
