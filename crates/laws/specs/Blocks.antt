@@ -1,7 +1,7 @@
 -- A list made of blocks, one after the other ("for j from 0", "each layer g and each i" of document 01, 'Triangle lists'), and the law of
 -- every loop that writes one. Assumes nothing.
 use mathlib.Core.Path.{_≡_, refl, sym, ap, _∙_}
-use mathlib.Core.List.{List, [], _∷_, _++_, map, append-nil, append-assoc}
+use mathlib.Core.List.{List, [], _∷_, _++_, map, append-nil, append-assoc, map-append}
 use mathlib.Core.Logic.{⊎-elim}
 use Prim.Native.Nat.{ℕ, zero, suc, _+_, _-_, _*_, _≤_, _<_}
 use native.Mathlib.Nat.{suc-mul, zero-add, add-zero, add-suc, not-suc-le-zero, le-of-suc-le-suc, eq-or-lt-of-le}
@@ -97,6 +97,10 @@ module _ {ℓ} {A : Type ℓ} where
       ∙ ap (λ (l : List A). overwrite 0 l t₀) (sym (blocks-first (n - 1) f) ∙ ap (λ (k : ℕ). blocks k f) e)
 
 module _ {ℓ ℓ′} {A : Type ℓ} {B : Type ℓ′} where
+  pub map-blocks : (h : A → B) (n : ℕ) (f : ℕ → List A) → map h (blocks n f) ≡ blocks n (λ k. map h (f k))
+  map-blocks h zero f = refl
+  map-blocks h (suc n) f = map-append h (blocks n f) (f n) ∙ ap (λ (l : List B). l ++ map h (f n)) (map-blocks h n f)
+
   -- what a loop that makes element i of element i leaves
   pub blocks-map : (f : A → B) (l : List A) (d : A) → blocks (length l) (λ i. f (getD l i d) ∷ []) ≡ map f l
   blocks-map f [] d = refl

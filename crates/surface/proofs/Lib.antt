@@ -1,5 +1,9 @@
 pub mod Chains
 pub mod Flatten
 pub mod Pieces
+pub mod Below
+pub mod Copies
+pub mod Rows
+pub mod LastRow
 pub mod Counts
 pub mod Room

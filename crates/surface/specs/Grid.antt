@@ -1,7 +1,7 @@
 -- A grid of quads: the one device behind the lists of document 01, 'Triangle lists'. What is not quoted stands for the words that all kinds
 -- share there: rings, quads between ring g and ring g + 1, vertex i of ring g. Definitions only.
 use mathlib.Core.List.{List}
-use Prim.Native.Nat.{ℕ, _+_, _*_, _%_, _≤_}
+use Prim.Native.Nat.{ℕ, _+_, _-_, _*_, _%_, _≤_, _<_}
 use Rattle.laws.specs.Blocks.{blocks}
 use Rattle.surface.specs.Limits.{mostInAll}
 use Rattle.surface.specs.Triangles.{Triangle}
@@ -20,6 +20,11 @@ abbrev pub pointsOf : Chain → ℕ → ℕ
 pointsOf Open n = n + 1
 pointsOf Closed n = n
 
+-- How many of n steps lead to the next number: all but a closed chain's last.
+abbrev pub straightOf : Chain → ℕ → ℕ
+straightOf Open n = n
+straightOf Closed n = n - 1
+
 -- A row of n quads between the rings whose first vertices are low and high.
 abbrev pub rowTriangles : Split → Chain → ℕ → ℕ → ℕ → List Triangle
 rowTriangles split round n low high =
@@ -36,3 +41,8 @@ pub record RowFits (round : Chain) (n low high at room : ℕ) : Type 0 where
   pub low-numbers : low + pointsOf round n ≤ mostInAll
   pub high-numbers : high + pointsOf round n ≤ mostInAll
   pub within : at + n * 6 ≤ room
+
+-- What the writer of m rows asks whose rings follow one another; where there is no row, there need be no ring.
+pub record RowsFit (round : Chain) (m n base at room : ℕ) : Type 0 where
+  pub numbers : 0 < m → base + (m + 1) * pointsOf round n ≤ mostInAll
+  pub within : at + m * n * 6 ≤ room

@@ -3,11 +3,13 @@ ghost use Prim.Native.Nat.{_<_};
 ghost use lib.ListN.{length};
 ghost use Rattle.laws.specs.Overwrite.{overwrite};
 ghost use Rattle.surface.specs.Triangles.{flatten};
-ghost use Rattle.surface.specs.Grid.{afterOf, pointsOf, rowTriangles, RowFits};
+ghost use Rattle.surface.specs.Grid.{afterOf, pointsOf, straightOf, rowTriangles, gridTriangles, RowFits, RowsFit};
 ghost use Rattle.surface.specs.Whole.{surfaceGrid, GridFits};
+ghost use Rattle.surface.specs.declared.grid.Chain.the-variants.{Open};
 use crate::quads::Split;
 use crate::quads::put_quad;
 use crate::quads::quad;
+use crate::raise::repeat_raised;
 use crate::whole::Surface;
 
 // A chain of points: open, with an end, or closed, so that the last is followed by the first.
@@ -37,6 +39,16 @@ pub(crate) fn points(chain: Chain, n: u16) -> u32
     }
 }
 
+// How many of a chain's n steps lead to the next number.
+fn straight(chain: Chain, n: u32) -> u32
+    ensures { λ r. ⌜ r ≡ straightOf chain n ⌝ }
+{
+    match chain {
+        Chain::Open => n,
+        Chain::Closed => { if n == 0 { 0 } else { n - 1 } }
+    }
+}
+
 // A row of quads between the rings whose first vertices are low and high, from place `at` on.
 fn write_row(out: &mut [u32], at: usize, split: Split, round: Chain, n: u32, low: u32, high: u32)
     requires { ⌜ RowFits round n low high at (length (now out)) ⌝ }
@@ -53,26 +65,37 @@ fn write_row(out: &mut [u32], at: usize, split: Split, round: Chain, n: u32, low
     }
 }
 
+// Rows between rings that follow one another, from place `at` on. The first is made of quads; each other is the one before it with the size
+// of a ring added.
+fn write_rows(out: &mut [u32], at: usize, s: Surface, rows: u32, base: u32)
+    requires { ⌜ RowsFit (s .round) rows (s .columns) base at (length (now out)) ⌝ }
+    ensures { λ _. ⌜ now (out .exit) ≡ overwrite at (flatten (gridTriangles (s .split) Open rows (s .round) (s .columns) base)) (now (out .entry)) ⌝ }
+{
+    if rows == 0 {
+        return;
+    }
+    let split = s.split;
+    let round = s.round;
+    let ring = s.ring_size();
+    write_row(out, at, split, round, s.columns as u32, base, base + ring);
+    repeat_raised(out, at, s.columns as usize * 6, rows, ring);
+}
+
 // The grid of a surface, from place `at` on; vertex 0 of its ring 0 is `base`.
 pub(crate) fn write_grid(out: &mut [u32], at: usize, s: Surface, base: u32)
     requires { ⌜ GridFits s base at (length (now out)) ⌝ }
     ensures { λ _. ⌜ now (out .exit) ≡ overwrite at (flatten (surfaceGrid s base)) (now (out .entry)) ⌝ }
 {
     let split = s.split;
-    let ends = s.along;
-    let along = ends.chain();
+    let along = s.along;
     let round = s.round;
     let rows = s.rows as u32;
     let columns = s.columns as u32;
-    let ring = s.ring_size();
-    let mut place = at;
-    let mut low = base;
-    let mut g: u32 = 0;
-    while g < rows {
-        let high = base + after(along, rows, g) * ring;
-        write_row(out, place, split, round, columns, low, high);
-        place += columns as usize * 6;
-        low += ring;
-        g += 1;
+    let ahead = straight(along.chain(), rows);
+    write_rows(out, at, s, ahead, base);
+    if ahead < rows {
+        let place = at + ahead as usize * columns as usize * 6;
+        let low = base + ahead * s.ring_size();
+        write_row(out, place, split, round, columns, low, base);
     }
 }

@@ -2,6 +2,7 @@
 mod caps;
 mod grid;
 mod quads;
+mod raise;
 mod whole;
 
 pub use caps::End;
