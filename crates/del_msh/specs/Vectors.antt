@@ -1,0 +1,49 @@
+-- What Rust itself means by the lines that build a list: a vector made, read, assigned and pushed onto, and a `for` loop. A vector or a slice
+-- is the list of its elements, a `usize` a natural number. Definitions only.
+use mathlib.Core.Bool.{cond}
+use mathlib.Core.List.{List, [], _∷_, _++_}
+use Prim.Native.Nat.{ℕ, zero, suc}
+use lib.Dec.{leb, ltb}
+use lib.ListN.{length, replicate}
+
+module _ {ℓ} {A : Type ℓ} where
+  -- `vec![x; n]`
+  abbrev pub vec : A → ℕ → List A
+  vec x n = replicate n x
+
+  -- `xs.push(x)`
+  abbrev pub push : List A → A → List A
+  push xs x = xs ++ (x ∷ [])
+
+  -- xs with element i changed
+  abbrev pub changed : (A → A) → ℕ → List A → List A
+  changed change i [] = []
+  changed change zero (x ∷ xs) = change x ∷ xs
+  changed change (suc i) (x ∷ xs) = x ∷ changed change i xs
+
+  -- The same where there is an element i. Where there is none the Rust panics: nothing is left, and nothing can be assigned to it.
+  unfoldable pub within : (A → A) → ℕ → List A → List A
+  within change i xs = cond (ltb i (length xs)) (changed change i xs) []
+
+  -- `xs[i] = x`
+  abbrev pub assign : List A → ℕ → A → List A
+  assign xs i x = within (λ old. x) i xs
+
+-- `a..b`
+pub record Range : Type 0 where
+  pub start : ℕ
+  pub end : ℕ
+
+infix 40 _‥_
+abbrev pub _‥_ : ℕ → ℕ → Range
+a ‥ b = record { start = a; end = b }
+
+module _ {ℓ} {S : Type ℓ} where
+  -- the turns a up to b − 1, one after the other: those up to b − 2, and then turn b − 1; none where a is not below b
+  abbrev pub turns : ℕ → ℕ → (ℕ → S → S) → S → S
+  turns a zero turn state = state
+  turns a (suc b) turn state = cond (leb a b) (turn b (turns a b turn state)) state
+
+  -- `for i in a..b { .. }`, over what its turns assign to or push onto
+  abbrev pub for : Range × (ℕ → S → S) → S → S
+  for (range, turn) state = turns (range .start) (range .end) turn state
