@@ -44,13 +44,13 @@ assignY xs i v = within (λ p. xyz (p .x) v (p .z)) i xs
 abbrev pub assignZ : List Point → ℕ → Float → List Point
 assignZ xs i v = within (λ p. xyz (p .x) (p .y) v) i xs
 
-abbrev first : ℕ → Triangle → Triangle
+abbrev pub first : ℕ → Triangle → Triangle
 first v (triangle a b c) = triangle v b c
 
-abbrev second : ℕ → Triangle → Triangle
+abbrev pub second : ℕ → Triangle → Triangle
 second v (triangle a b c) = triangle a v c
 
-abbrev third : ℕ → Triangle → Triangle
+abbrev pub third : ℕ → Triangle → Triangle
 third v (triangle a b c) = triangle a b v
 
 abbrev pub assign0 : List Triangle → ℕ → ℕ → List Triangle

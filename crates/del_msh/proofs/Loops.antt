@@ -1,0 +1,97 @@
+-- The laws of the loops that build a list: what an assignment leaves, and the two laws of every loop that assigns or pushes blocks. Assumes nothing.
+use mathlib.Core.Path.{_≡_, refl, sym, ap, _∙_, subst}
+use mathlib.Core.Bool.{cond}
+use mathlib.Core.List.{List, [], _∷_, _++_, append-nil, append-assoc}
+use mathlib.Core.Logic.{⊎-elim}
+use Prim.Native.Nat.{ℕ, zero, suc, _+_, _*_, _≤_, _<_}
+use native.Mathlib.Nat.{eq-or-lt-of-le, le-of-suc-le-suc}
+use native.Mathlib.Omega.{arith}
+use borrow.Author.Tests.{le-leb, lt-leb, lt-ltb}
+use lib.ListN.{length}
+use Rattle.laws.specs.Overwrite.{overwrite, overwrite-none, overwrite-append, length-overwrite}
+use Rattle.laws.specs.Blocks.{blocks, length-blocks}
+use Rattle.del_msh.specs.Vectors.{changed, within, turns}
+
+module _ {ℓ} {S : Type ℓ} where
+  -- what holds before a loop, and from each turn to the next, holds behind it
+  pub invariant : (a n : ℕ) (turn : ℕ → S → S) (state : ℕ → S) → a ≤ n
+      → ((i : ℕ) → a ≤ i → i < n → turn i (state i) ≡ state (suc i)) → turns a n turn (state a) ≡ state n
+  invariant a zero turn state h each = let e : a ≡ 0 = omega arith in ap state e
+  invariant a (suc n) turn state h each =
+      ⊎-elim
+      (λ last. ap (λ b. cond b (turn n (turns a n turn (state a))) (state a)) (lt-leb a n (omega arith)) ∙ ap state last)
+      (λ lower. ap (λ b. cond b (turn n (turns a n turn (state a))) (state a)) (le-leb a n (le-of-suc-le-suc lower))
+      ∙ ap (turn n) (invariant a n turn state (le-of-suc-le-suc lower) (λ i l u. each i l (omega arith)))
+      ∙ each n (le-of-suc-le-suc lower) (omega arith))
+      (eq-or-lt-of-le h)
+
+module _ {ℓ} {A : Type ℓ} where
+  length-changed : (f : A → A) (i : ℕ) (xs : List A) → length (changed f i xs) ≡ length xs
+  length-changed f i [] = refl
+  length-changed f zero (x ∷ xs) = refl
+  length-changed f (suc i) (x ∷ xs) = ap suc (length-changed f i xs)
+
+  changed-twice : (f g : A → A) (i : ℕ) (xs : List A) → changed g i (changed f i xs) ≡ changed (λ x. g (f x)) i xs
+  changed-twice f g i [] = refl
+  changed-twice f g zero (x ∷ xs) = refl
+  changed-twice f g (suc i) (x ∷ xs) = ap (λ (r : List A). x ∷ r) (changed-twice f g i xs)
+
+  changed-to : (f : A → A) (y : A) → ((x : A) → f x ≡ y) → (i : ℕ) (xs : List A) → changed f i xs ≡ overwrite i (y ∷ []) xs
+  changed-to f y same i [] = refl
+  changed-to f y same zero (x ∷ xs) = λ j. same x j ∷ sym (overwrite-none zero xs) j
+  changed-to f y same (suc i) (x ∷ xs) = ap (λ (r : List A). x ∷ r) (changed-to f y same i xs)
+
+  within-is : (f : A → A) (i : ℕ) (xs : List A) → i < length xs → within f i xs ≡ changed f i xs
+  unfolding within
+  within-is f i xs h = rw (lt-ltb i (length xs) h)
+
+  -- `xs[i] = y`; and the same by three components
+  pub assigned : (i : ℕ) (y : A) (xs : List A) → i < length xs → within (λ old. y) i xs ≡ overwrite i (y ∷ []) xs
+  assigned i y xs h = within-is (λ old. y) i xs h ∙ changed-to (λ old. y) y (λ x. refl) i xs
+
+  pub assigned-by-three : (f g h : A → A) (y : A) → ((x : A) → h (g (f x)) ≡ y) → (i : ℕ) (xs : List A) → i < length xs
+      → within h i (within g i (within f i xs)) ≡ overwrite i (y ∷ []) xs
+  assigned-by-three f g h y same i xs l =
+      let one = within-is f i xs l in
+      let two = ap (within g i) one ∙ within-is g i (changed f i xs) (omega (arith, length-changed f i xs)) ∙ changed-twice f g i xs in
+      let both : A → A = λ x. g (f x) in
+      ap (within h i) two
+      ∙ within-is h i (changed both i xs) (omega (arith, length-changed both i xs))
+      ∙ changed-twice both h i xs
+      ∙ changed-to (λ x. h (both x)) y same i xs
+
+  -- A loop that writes block i of c elements at place at + i * c, whatever else it reads.
+  pub writes : (a n at c : ℕ) (f : ℕ → List A) (turn : ℕ → List A → List A) (t₀ : List A) → a ≤ n → ((k : ℕ) → length (f k) ≡ c)
+      → ((i : ℕ) → a ≤ i → i < n → (t : List A) → t ≡ overwrite at (blocks i f) t₀ → turn i t ≡ overwrite (at + i * c) (f i) t)
+      → turns a n turn (overwrite at (blocks a f) t₀) ≡ overwrite at (blocks n f) t₀
+  writes a n at c f turn t₀ h sized each =
+      invariant a n turn (λ i. overwrite at (blocks i f) t₀) h (λ i l u.
+      each i l u (overwrite at (blocks i f) t₀) refl
+      ∙ ap (λ (k : ℕ). overwrite (at + k) (f i) (overwrite at (blocks i f) t₀)) (sym (length-blocks c i f (λ k _. sized k)))
+      ∙ overwrite-append at (blocks i f) (f i) t₀)
+
+  -- The same from 0 on, where what is written does not depend on what was.
+  pub fills : (n at c : ℕ) (f : ℕ → List A) (turn : ℕ → List A → List A) (t₀ : List A) → ((k : ℕ) → length (f k) ≡ c)
+      → ((i : ℕ) → i < n → (t : List A) → length t ≡ length t₀ → turn i t ≡ overwrite (at + i * c) (f i) t)
+      → turns 0 n turn t₀ ≡ overwrite at (blocks n f) t₀
+  fills n at c f turn t₀ sized each =
+      ap (turns 0 n turn) (sym (overwrite-none at t₀))
+      ∙ writes 0 n at c f turn t₀ (omega arith) sized (λ i l u t is. each i u t (ap length is ∙ length-overwrite at (blocks i f) t₀))
+
+  -- A loop that pushes block i.
+  pub pushes : (n : ℕ) (f : ℕ → List A) (turn : ℕ → List A → List A) (t₀ : List A) → ((i : ℕ) → i < n → (t : List A) → turn i t ≡ t ++ f i)
+      → turns 0 n turn t₀ ≡ t₀ ++ blocks n f
+  pushes n f turn t₀ each =
+      ap (turns 0 n turn) (sym (append-nil t₀))
+      ∙ invariant 0 n turn (λ i. t₀ ++ blocks i f) (omega arith) (λ i l u. each i u (t₀ ++ blocks i f) ∙ append-assoc t₀ (blocks i f) (f i))
+
+  -- two elements, one after the other
+  pub two-assigned : (p : ℕ) (y z : A) (xs : List A) → p + 1 < length xs
+      → within (λ old. z) (p + 1) (within (λ old. y) p xs) ≡ overwrite p (y ∷ z ∷ []) xs
+  two-assigned p y z xs h =
+      ap (within (λ old. z) (p + 1)) (assigned p y xs (omega arith))
+      ∙ assigned (p + 1) z (overwrite p (y ∷ []) xs) (omega (arith, length-overwrite p (y ∷ []) xs))
+      ∙ overwrite-append p (y ∷ []) (z ∷ []) xs
+
+  pub two-pushed : (t : List A) (y z : A) → (t ++ (y ∷ [])) ++ (z ∷ []) ≡ t ++ (y ∷ z ∷ [])
+  two-pushed t y z = append-assoc t (y ∷ []) (z ∷ [])
