@@ -1,2 +1,5 @@
 pub mod Loops
-pub mod Trimesh3Primitive
+pub mod Floats
+pub mod Rings
+pub mod Topology
+pub mod ClosedCylinder

@@ -1,4 +1,4 @@
--- The lists of trimesh3_primitive.rs are document 01's. Assumes nothing.
+-- The triangle lists of trimesh3_primitive.rs are document 01's. Assumes nothing.
 use mathlib.Core.Path.{_≡_, refl, sym, ap, _∙_}
 use mathlib.Core.List.{List, [], _∷_, _++_, append-assoc}
 use Prim.Native.Nat.{ℕ, _+_, _-_, _*_, _/_, _%_, _≤_, _<_}
