@@ -21,31 +21,32 @@ chunks (x ∷ []) = []
 chunks (x ∷ y ∷ []) = []
 chunks (x ∷ y ∷ z ∷ rest) = xyz x y z ∷ chunks rest
 
--- "The source fills slices here, whose lengths its caller works out."
-abbrev pub tube : List Point → ℕ → Float → TriMesh
-tube curve divisions radius =
-    let counts = cylinder-open-end-number-of-tri-and-vtx divisions (length curve - 1) in
-    let tri2vtx = vec noTriangle (counts .0) in
-    let vtx2xyz = vec zeros (counts .1) in
-    let tri2vtx = cylinder-open-end-set-topology tri2vtx (length curve) in
-    let vtx2xyz = polyline3.set-vtx2xyz-for-generalized-cylinder-open-end vtx2xyz curve radius in
-    (tri2vtx, vtx2xyz)
-
-abbrev pub body : Description → List Float → TriMesh
-body (Ribbon width) c = polyline3.to-trimesh3-ribbon (chunks c) (polyline3.vtx2framex (chunks c)) width
-body (Tube divisions radius) c = tube (chunks c) divisions radius
-body (Capsule divisions longitudes radius) c = polyline3.to-trimesh3-capsule (chunks c) divisions longitudes radius
-body (Torus divisions radius) c = polyloop3.to-trimesh3-torus (chunks c) (polyloop3.vtx2framex (chunks c)) radius divisions
-body (ClosedCylinder divisions layers centred radius length) c = cylinder-closed-end-yup radius length divisions layers centred
-
 -- "Vertices are three f32 each" ('The shared set'): the floats of a list of points
 abbrev pub floats : List Point → List Float
 floats [] = []
 floats (p ∷ points) = p .x ∷ p .y ∷ p .z ∷ floats points
 
--- the body's triangles and the floats of its vertices
-abbrev pub rustBody : Description → List Float → List Triangle × List Float
-rustBody d c = (body d c .0, floats (body d c .1))
+module _ (outside : Point) where
+  -- "The source fills slices here, whose lengths its caller works out."
+  abbrev pub tube : List Point → ℕ → Float → TriMesh
+  tube curve divisions radius =
+      let counts = cylinder-open-end-number-of-tri-and-vtx divisions (length curve - 1) in
+      let tri2vtx = vec noTriangle (counts .0) in
+      let vtx2xyz = vec zeros (counts .1) in
+      let tri2vtx = cylinder-open-end-set-topology tri2vtx (length curve) in
+      let vtx2xyz = polyline3.set-vtx2xyz-for-generalized-cylinder-open-end outside vtx2xyz curve radius in
+      (tri2vtx, vtx2xyz)
+
+  abbrev pub body : Description → List Float → TriMesh
+  body (Ribbon width) c = polyline3.to-trimesh3-ribbon outside (chunks c) (polyline3.vtx2framex outside (chunks c)) width
+  body (Tube divisions radius) c = tube (chunks c) divisions radius
+  body (Capsule divisions longitudes radius) c = polyline3.to-trimesh3-capsule outside (chunks c) divisions longitudes radius
+  body (Torus divisions radius) c = polyloop3.to-trimesh3-torus outside (chunks c) (polyloop3.vtx2framex outside (chunks c)) radius divisions
+  body (ClosedCylinder divisions layers centred radius length) c = cylinder-closed-end-yup radius length divisions layers centred
+
+  -- the body's triangles, and the floats of its vertices
+  abbrev pub rustBody : Description → List Float → List Triangle × List Float
+  rustBody d c = (body d c .0, floats (body d c .1))
 
 -- What the Rust asks of its caller: what it asserts (`ndiv_circum > 2`, `ndiv_length >= 1`, of a capsule 2L + m − 2), and the two vertices of the
 -- first segment, which it reads untested. A tube's slices have a length to divide.

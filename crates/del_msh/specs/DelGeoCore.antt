@@ -3,8 +3,7 @@
 -- tests/src/del_msh/del_geo_core.rs, and the arrays `[f32; 3]` and `[usize; 3]`. Definitions only.
 use mathlib.Core.List.{List, [], _∷_}
 use Prim.Native.Nat.{ℕ, _*_}
-use lib.Ieee.{Float, binary32, ofBits, nan}
-use lib.ListN.{getD}
+use lib.Ieee.{Float, binary32, ofBits}
 use Rattle.surface.specs.Triangles.{Triangle, triangle}
 use Rattle.vec3.specs.Points.{sumOf, differenceOf, scaled, crossOf, normalised}
 use Rattle.vec3.specs.Turns.{turnOf}
@@ -28,11 +27,6 @@ zeros = xyz zero zero zero
 
 abbrev pub noTriangle : Triangle
 noTriangle = triangle 0 0 0
-
--- `points[i]`, read. Past the end, where the Rust panics, NaNs.
-infixl 90 _at_
-abbrev pub _at_ : List Point → ℕ → Point
-points at i = getD points i (xyz nan nan nan)
 
 -- `xs[i][0] = v`, `xs[i][1] = v`, `xs[i][2] = v`: of points, and of triangles
 abbrev pub assignX : List Point → ℕ → Float → List Point

@@ -1,6 +1,6 @@
 -- The open cylinder's triangles and the closed cylinder, after trimesh3_primitive.rs of del-msh (see NOTICE): functions, names and order are the
 -- source's, as tests/src/del_msh/trimesh3_primitive.rs has them. Its `assert!` are conditions of the theorem. Definitions only.
-use mathlib.Core.Bool.{Bool, cond}
+use mathlib.Core.Bool.{Bool}
 use mathlib.Core.List.{List, []}
 use Prim.Native.Nat.{ℕ, _+_, _-_, _*_, _/_, _%_}
 use lib.Ieee.{Float, neg}
@@ -9,7 +9,7 @@ use Rattle.surface.specs.Triangles.{Triangle, triangle}
 use Rattle.vec3.specs.Points.{plus, times, over}
 use Rattle.vec3.specs.Turns.{whole}
 use Rattle.vec3.specs.declared.points.Point.{Point}
-use Rattle.del_msh.specs.Vectors.{vec, push, assign, for, _‥_}
+use Rattle.del_msh.specs.Vectors.{vec, push, assign, if, for, _‥_}
 use Rattle.del_msh.specs.DelGeoCore.{xyz, zero, one, zeros, assign0, assign1, assign2, TAU, mul, div, cos, sin}
 
 -- `(Vec<[usize; 3]>, Vec<[f32; 3]>)`: triangles and vertices
@@ -86,7 +86,7 @@ cylinder-closed-end-yup radius length ndiv-circumference ndiv-length is-center =
     let half = over one two in
     let dl = over length (whole ndiv-length) in
     let dr = div TAU ndiv-circumference in
-    let y-min = cond is-center (times (neg length) half) zero in
+    let y-min = if (is-center, times (neg length) half, zero) in
     -- bottom
     let vtx2xyz = assign vtx2xyz 0 (xyz zero y-min zero) in
     let vtx2xyz = for (

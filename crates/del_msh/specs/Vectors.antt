@@ -1,10 +1,10 @@
 -- What Rust itself means by the lines that build a list: a vector made, read, assigned and pushed onto, and a `for` loop. A vector or a slice
 -- is the list of its elements, a `usize` a natural number. Definitions only.
-use mathlib.Core.Bool.{cond}
+use mathlib.Core.Bool.{Bool, cond}
 use mathlib.Core.List.{List, [], _∷_, _++_}
 use Prim.Native.Nat.{ℕ, zero, suc}
 use lib.Dec.{leb, ltb}
-use lib.ListN.{length, replicate}
+use lib.ListN.{length, getD, replicate}
 
 module _ {ℓ} {A : Type ℓ} where
   -- `vec![x; n]`
@@ -14,6 +14,10 @@ module _ {ℓ} {A : Type ℓ} where
   -- `xs.push(x)`
   abbrev pub push : List A → A → List A
   push xs x = xs ++ (x ∷ [])
+
+  -- `xs[i]`, read. Past the end the Rust panics; here it is `outside`, of which the theorem asks nothing.
+  abbrev pub read : A → List A → ℕ → A
+  read outside xs i = getD xs i outside
 
   -- xs with element i changed
   abbrev pub changed : (A → A) → ℕ → List A → List A
@@ -28,6 +32,10 @@ module _ {ℓ} {A : Type ℓ} where
   -- `xs[i] = x`
   abbrev pub assign : List A → ℕ → A → List A
   assign xs i x = within (λ old. x) i xs
+
+-- `if test { x } else { y }`, and `if test { return x; } y`
+abbrev pub if : {A : Type 0} → Bool × A × A → A
+if (test, x, y) = cond test x y
 
 -- `a..b`
 pub record Range : Type 0 where
