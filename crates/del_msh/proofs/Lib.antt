@@ -3,3 +3,5 @@ pub mod Floats
 pub mod Rings
 pub mod Topology
 pub mod ClosedCylinder
+pub mod Curve
+pub mod Frames
