@@ -5,3 +5,4 @@ pub mod Topology
 pub mod ClosedCylinder
 pub mod Curve
 pub mod Frames
+pub mod OpenFrames
