@@ -20,9 +20,10 @@ use Rattle.del_msh.specs.Vectors.{vec}
 use Rattle.del_msh.specs.DelGeoCore.{xyz, zero, one, zeros, cos, sin}
 use Rattle.del_msh.specs.Trimesh3Primitive.{cylinder-closed-end-yup}
 use Rattle.del_msh.specs.Adapted.{floats}
+use Rattle.del_msh.proofs.Loops.{assigned}
 use Rattle.del_msh.proofs.Floats.{floats-append}
 use Rattle.del_msh.proofs.Topology.{closed-topology}
-use Rattle.del_msh.proofs.Rings.{whole-turn, ringsPoints, length-rings, rings-floats, point-assigned, rings-assigned, behind}
+use Rattle.del_msh.proofs.Rings.{whole-turn, ringsPoints, length-rings, rings-floats, rings-assigned, behind}
 
 -- `half`, worked out in floats, is 0.5
 half-is : over one (plus one one) ≡ ofBits binary32 0x3F00_0000
@@ -60,12 +61,12 @@ module _ (r l : Float) (n S : ℕ) (centred : Bool) where
       let low = low-is centred l in
       let e = length-rings (S + 1) vertex n in
       behind room (n * (S + 1) + 1) ((bottom ∷ []) ++ rings) (top ∷ []) t₀ sized
-      (point-assigned room (room - 1) (n * (S + 1) + 1) _ (omega arith) (omega arith) (ap (λ (y : Float). pole (plus y l)) low))
+      (assigned room (room - 1) (n * (S + 1) + 1) _ (omega arith) (omega arith) (ap (λ (y : Float). pole (plus y l)) low))
       (behind room 1 (bottom ∷ []) rings t₀ sized
       (rings-assigned room (S + 1) n 1 vertex _ _ (omega arith) (λ g i hg hi h t.
-      point-assigned room (g * n + i + 1) (1 + g * n + i) t h (omega arith)
+      assigned room (g * n + i + 1) (1 + g * n + i) t h (omega arith)
       (λ j. xyz (times r (whole-turn i n j .cos)) (plus (low j) (times (over l (whole S)) (whole g))) (times r (whole-turn i n j .sin)))))
-      (point-assigned room 0 0 t₀ (omega arith) refl (ap pole low) sized)
+      (assigned room 0 0 t₀ (omega arith) refl (ap pole low) sized)
       refl)
       (omega arith)
       ∙ overwrite-all (((bottom ∷ []) ++ rings) ++ (top ∷ [])) t₀ (omega (arith, length-append rings (top ∷ [])))

@@ -17,7 +17,6 @@ use Rattle.curve.specs.Framex.{frameOf}
 use Rattle.del_msh.specs.Vectors.{vec, read, within, turns}
 use Rattle.del_msh.specs.DelGeoCore.{zeros}
 use Rattle.del_msh.proofs.Loops.{assigned, writes}
-use Rattle.del_msh.proofs.Rings.{point-assigned}
 
 -- a point for each vertex
 abbrev pub pointsOf : ℕ → (ℕ → Point) → List Point
@@ -58,10 +57,10 @@ module _ (outside : Point) (chain : Chain) (count : ℕ) (c : List Float) where
   frames-carried room n turn first h fits is each =
       let t₀ = vec zeros room in
       let sized : length t₀ ≡ room = length-replicate room zeros in
-      ap (turns 1 n turn) (point-assigned room 0 0 t₀ (omega arith) refl is sized)
+      ap (turns 1 n turn) (assigned room 0 0 t₀ (omega arith) refl is sized)
       ∙ writes 1 n 0 1 (λ g. frame g ∷ []) turn t₀ h (λ g. refl) (λ i l u t so.
       let long : length t ≡ room = ap length so ∙ length-overwrite 0 (pointsOf i frame) t₀ ∙ sized in
       each i l u t
-      ∙ point-assigned room i (0 + i * 1) t (omega arith) (omega arith)
+      ∙ assigned room i (0 + i * 1) t (omega arith) (omega arith)
       (ap (carriedOn i) (written-at outside i frame t₀ (i - 1) (omega arith) (omega arith) so) ∙ frame-next i l)
       long)

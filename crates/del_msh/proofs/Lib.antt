@@ -6,3 +6,5 @@ pub mod ClosedCylinder
 pub mod Curve
 pub mod Frames
 pub mod OpenFrames
+pub mod Ribbon
+pub mod Tube

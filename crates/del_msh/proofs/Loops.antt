@@ -45,10 +45,22 @@ module _ {ℓ} {A : Type ℓ} where
   unfolding within
   within-is f i xs h = rw (lt-ltb i (length xs) h)
 
-  -- `xs[i] = y`; and the same by three components
-  pub assigned : (i : ℕ) (y : A) (xs : List A) → i < length xs → within (λ old. y) i xs ≡ overwrite i (y ∷ []) xs
-  assigned i y xs h = within-is (λ old. y) i xs h ∙ changed-to (λ old. y) y (λ x. refl) i xs
+  -- `xs[p] = v` under other names of its place and its value
+  pub assigned : (room p q : ℕ) {v w : A} (t : List A) → q < room → p ≡ q → v ≡ w → length t ≡ room → within (λ old. v) p t ≡ overwrite q (w ∷ []) t
+  assigned room p q {v} t h place is long =
+      within-is (λ old. v) p t (omega arith)
+      ∙ changed-to (λ old. v) v (λ x. refl) p t
+      ∙ (λ j. overwrite (place j) (is j ∷ []) t)
 
+  -- two elements, one after the other
+  pub two-assigned : (room p q : ℕ) {v w v′ w′ : A} (t : List A) → q + 1 < room → p ≡ q → v ≡ v′ → w ≡ w′ → length t ≡ room
+      → within (λ old. w) (p + 1) (within (λ old. v) p t) ≡ overwrite q (v′ ∷ w′ ∷ []) t
+  two-assigned room p q {v} {w} {v′} {w′} t h place is so long =
+      ap (within (λ old. w) (p + 1)) (assigned room p q t (omega arith) place is long)
+      ∙ assigned room (p + 1) (q + 1) (overwrite q (v′ ∷ []) t) h (omega arith) so (length-overwrite q (v′ ∷ []) t ∙ long)
+      ∙ overwrite-append q (v′ ∷ []) (w′ ∷ []) t
+
+  -- three components of one element
   pub assigned-by-three : (f g h : A → A) (y : A) → ((x : A) → h (g (f x)) ≡ y) → (i : ℕ) (xs : List A) → i < length xs
       → within h i (within g i (within f i xs)) ≡ overwrite i (y ∷ []) xs
   assigned-by-three f g h y same i xs l =
@@ -84,14 +96,3 @@ module _ {ℓ} {A : Type ℓ} where
   pushes n f turn t₀ each =
       ap (turns 0 n turn) (sym (append-nil t₀))
       ∙ invariant 0 n turn (λ i. t₀ ++ blocks i f) (omega arith) (λ i l u. each i u (t₀ ++ blocks i f) ∙ append-assoc t₀ (blocks i f) (f i))
-
-  -- two elements, one after the other
-  pub two-assigned : (p : ℕ) (y z : A) (xs : List A) → p + 1 < length xs
-      → within (λ old. z) (p + 1) (within (λ old. y) p xs) ≡ overwrite p (y ∷ z ∷ []) xs
-  two-assigned p y z xs h =
-      ap (within (λ old. z) (p + 1)) (assigned p y xs (omega arith))
-      ∙ assigned (p + 1) z (overwrite p (y ∷ []) xs) (omega (arith, length-overwrite p (y ∷ []) xs))
-      ∙ overwrite-append p (y ∷ []) (z ∷ []) xs
-
-  pub two-pushed : (t : List A) (y z : A) → (t ++ (y ∷ [])) ++ (z ∷ []) ≡ t ++ (y ∷ z ∷ [])
-  two-pushed t y z = append-assoc t (y ∷ []) (z ∷ [])

@@ -25,8 +25,8 @@ use Rattle.del_msh.specs.Vectors.{vec, read, within}
 use Rattle.del_msh.specs.DelGeoCore.{zeros}
 use Rattle.del_msh.specs.Polyline3 as rust
 use Rattle.del_msh.specs.Adapted.{chunks}
-use Rattle.del_msh.proofs.Loops.{fills}
-use Rattle.del_msh.proofs.Rings.{point-assigned, behind}
+use Rattle.del_msh.proofs.Loops.{assigned, fills}
+use Rattle.del_msh.proofs.Rings.{behind}
 use Rattle.del_msh.proofs.Curve.{length-chunks, vertex-at}
 use Rattle.del_msh.proofs.Frames.{pointsOf, length-points, point-at, written-at, frame, frames-carried}
 
@@ -75,7 +75,7 @@ module _ (outside : Point) (c : List Float) (m : ℕ) (is : verticesIn c ≡ m +
       let t₀ = vec zeros room in
       let long : length t₀ ≡ room = length-replicate room zeros in
       behind room m (pointsOf m ex) (ex m ∷ []) t₀ long
-      (point-assigned room m m t (omega arith) refl (written-at outside m (frame outside Open m c) t₀ (m - 1) (omega arith) (omega arith) is ∙ ex-last))
+      (assigned room m m t (omega arith) refl (written-at outside m (frame outside Open m c) t₀ (m - 1) (omega arith) (omega arith) is ∙ ex-last))
       (is ∙ ap (λ (l : List Point). overwrite 0 l t₀) (blocks-cong m (λ g. frame outside Open m c g ∷ []) (λ g. ex g ∷ []) (λ g l. ap (λ (p : Point). p ∷ []) (ex-within g l))))
       (length-points m ex)
       ∙ ap (λ (k : ℕ). overwrite 0 (pointsOf k ex) t₀) (sym (add-one m))
@@ -103,7 +103,7 @@ module _ (outside : Point) (c : List Float) (m : ℕ) (is : verticesIn c ≡ m +
       let t₀ = vec zeros room in
       let long : length t₀ ≡ room = length-replicate room zeros in
       rw sized (fills room 0 1 (λ g. paper.vtx2framey m c g ∷ []) _ t₀ (λ g. refl) (λ g l t as-long.
-      point-assigned room g (0 + g * 1) t (omega arith) (omega arith) (λ j. crossOf (framez-is g l j) (ex-at g g l refl j)) (as-long ∙ long))
+      assigned room g (0 + g * 1) t (omega arith) (omega arith) (λ j. crossOf (framez-is g l j) (ex-at g g l refl j)) (as-long ∙ long))
       ∙ overwrite-all (pointsOf room (paper.vtx2framey m c)) t₀ (omega (arith, length-points room (paper.vtx2framey m c))))
 
   pub ey-at : (k g : ℕ) → g < m + 1 → k ≡ g → read outside (rust.vtx2framey outside curve (rust.vtx2framex outside curve)) k ≡ paper.vtx2framey m c g

@@ -16,7 +16,7 @@ use Rattle.rings.specs.Vertices.{ringOf}
 use Rattle.del_msh.specs.Vectors.{within, turns}
 use Rattle.del_msh.specs.DelGeoCore.{xyz, assignX, assignY, assignZ}
 use Rattle.del_msh.specs.Adapted.{floats}
-use Rattle.del_msh.proofs.Loops.{assigned, assigned-by-three, fills, pushes}
+use Rattle.del_msh.proofs.Loops.{assigned-by-three, fills, pushes}
 use Rattle.del_msh.proofs.Floats.{floats-blocks}
 
 -- `TAU * i / n`, in either order, is turn(i, n)
@@ -41,10 +41,7 @@ rings-floats k vertex n =
     floats-blocks k (λ g. ringPoints (vertex g) n)
     ∙ blocks-cong k (λ g. floats (ringPoints (vertex g) n)) (λ g. ringOf (vertex g) n) (λ g _. floats-blocks n (λ i. vertex g (turnOf i n) ∷ []))
 
--- a point assigned whole, or component by component, under another name of its place and its value
-pub point-assigned : (room p q : ℕ) {v w : Point} (t : List Point) → q < room → p ≡ q → v ≡ w → length t ≡ room → within (λ old. v) p t ≡ overwrite q (w ∷ []) t
-point-assigned room p q {v} t h place is long = assigned p v t (omega arith) ∙ (λ j. overwrite (place j) (is j ∷ []) t)
-
+-- a point assigned component by component, under other names of its place and its value
 pub point-assigned-by-three : (room p q : ℕ) {v w : Point} (t : List Point) → q < room → p ≡ q → v ≡ w → length t ≡ room
     → assignZ (assignY (assignX t p (v .x)) p (v .y)) p (v .z) ≡ overwrite q (w ∷ []) t
 point-assigned-by-three room p q {v} t h place is long =
