@@ -71,6 +71,9 @@ module _ (r l : Float) (n S : ℕ) (centred : Bool) where
       (omega arith)
       ∙ overwrite-all (((bottom ∷ []) ++ rings) ++ (top ∷ [])) t₀ (omega (arith, length-append rings (top ∷ [])))
 
+  pub yup-length : length (cylinder-closed-end-yup r l n S centred .1) ≡ n * (S + 1) + 2
+  yup-length = ap length yup-vertices ∙ omega (arith, length-append rings (top ∷ []), length-rings (S + 1) vertex n)
+
   pub yup-floats : floats (cylinder-closed-end-yup r l n S centred .1) ≡ cylinderVertices r l n S centred
   yup-floats =
       ap floats yup-vertices

@@ -14,7 +14,7 @@ use Rattle.vec3.specs.declared.points.Point.{Point}
 use Rattle.vec3.specs.declared.frames.Frame.{Frame}
 use Rattle.curve.specs.Segments.{segmentDirection}
 use Rattle.curve.specs.Framex.{frameOf}
-use Rattle.del_msh.specs.Vectors.{vec, read, within, turns}
+use Rattle.del_msh.specs.Vectors.{vec, read, change, turns}
 use Rattle.del_msh.specs.DelGeoCore.{zeros}
 use Rattle.del_msh.proofs.Loops.{assigned, writes}
 
@@ -52,8 +52,8 @@ module _ (outside : Point) (chain : Chain) (count : ℕ) (c : List Float) where
       λ j. transported (frameOf chain count c (e j)) (segmentDirection chain count c (e j)) (segmentDirection chain count c (suc g)) .ex
 
   pub frames-carried : (room n : ℕ) (turn : ℕ → List Point → List Point) (first : Point) → 1 ≤ n → n ≤ room → first ≡ frame 0
-      → ((i : ℕ) → 1 ≤ i → i < n → (t : List Point) → turn i t ≡ within (λ old. carriedOn i (read outside t (i - 1))) i t)
-      → turns 1 n turn (within (λ old. first) 0 (vec zeros room)) ≡ overwrite 0 (pointsOf n frame) (vec zeros room)
+      → ((i : ℕ) → 1 ≤ i → i < n → (t : List Point) → turn i t ≡ change t i (λ old. carriedOn i (read outside t (i - 1))))
+      → turns 1 n turn (change (vec zeros room) 0 (λ old. first)) ≡ overwrite 0 (pointsOf n frame) (vec zeros room)
   frames-carried room n turn first h fits is each =
       let t₀ = vec zeros room in
       let sized : length t₀ ≡ room = length-replicate room zeros in

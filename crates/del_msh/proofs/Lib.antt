@@ -8,3 +8,4 @@ pub mod Frames
 pub mod OpenFrames
 pub mod Ribbon
 pub mod Tube
+pub mod Capsule

@@ -10,7 +10,7 @@ use borrow.Author.Tests.{le-leb, lt-leb, lt-ltb}
 use lib.ListN.{length}
 use Rattle.laws.specs.Overwrite.{overwrite, overwrite-none, overwrite-append, length-overwrite}
 use Rattle.laws.specs.Blocks.{blocks, length-blocks}
-use Rattle.del_msh.specs.Vectors.{changed, within, turns}
+use Rattle.del_msh.specs.Vectors.{changed, change, assign, turns}
 
 module _ {ℓ} {S : Type ℓ} where
   -- what holds before a loop, and from each turn to the next, holds behind it
@@ -26,50 +26,49 @@ module _ {ℓ} {S : Type ℓ} where
       (eq-or-lt-of-le h)
 
 module _ {ℓ} {A : Type ℓ} where
-  length-changed : (f : A → A) (i : ℕ) (xs : List A) → length (changed f i xs) ≡ length xs
-  length-changed f i [] = refl
-  length-changed f zero (x ∷ xs) = refl
-  length-changed f (suc i) (x ∷ xs) = ap suc (length-changed f i xs)
+  length-changed : (xs : List A) (i : ℕ) (f : A → A) → length (changed xs i f) ≡ length xs
+  length-changed [] i f = refl
+  length-changed (x ∷ xs) zero f = refl
+  length-changed (x ∷ xs) (suc i) f = ap suc (length-changed xs i f)
 
-  changed-twice : (f g : A → A) (i : ℕ) (xs : List A) → changed g i (changed f i xs) ≡ changed (λ x. g (f x)) i xs
-  changed-twice f g i [] = refl
-  changed-twice f g zero (x ∷ xs) = refl
-  changed-twice f g (suc i) (x ∷ xs) = ap (λ (r : List A). x ∷ r) (changed-twice f g i xs)
+  changed-twice : (xs : List A) (i : ℕ) (f g : A → A) → changed (changed xs i f) i g ≡ changed xs i (λ x. g (f x))
+  changed-twice [] i f g = refl
+  changed-twice (x ∷ xs) zero f g = refl
+  changed-twice (x ∷ xs) (suc i) f g = ap (λ (r : List A). x ∷ r) (changed-twice xs i f g)
 
-  changed-to : (f : A → A) (y : A) → ((x : A) → f x ≡ y) → (i : ℕ) (xs : List A) → changed f i xs ≡ overwrite i (y ∷ []) xs
+  changed-to : (f : A → A) (y : A) → ((x : A) → f x ≡ y) → (i : ℕ) (xs : List A) → changed xs i f ≡ overwrite i (y ∷ []) xs
   changed-to f y same i [] = refl
   changed-to f y same zero (x ∷ xs) = λ j. same x j ∷ sym (overwrite-none zero xs) j
   changed-to f y same (suc i) (x ∷ xs) = ap (λ (r : List A). x ∷ r) (changed-to f y same i xs)
 
-  within-is : (f : A → A) (i : ℕ) (xs : List A) → i < length xs → within f i xs ≡ changed f i xs
-  unfolding within
-  within-is f i xs h = rw (lt-ltb i (length xs) h)
+  change-is : (xs : List A) (i : ℕ) (f : A → A) → i < length xs → change xs i f ≡ changed xs i f
+  unfolding change
+  change-is xs i f h = rw (lt-ltb i (length xs) h)
 
   -- `xs[p] = v` under other names of its place and its value
-  pub assigned : (room p q : ℕ) {v w : A} (t : List A) → q < room → p ≡ q → v ≡ w → length t ≡ room → within (λ old. v) p t ≡ overwrite q (w ∷ []) t
+  pub assigned : (room p q : ℕ) {v w : A} (t : List A) → q < room → p ≡ q → v ≡ w → length t ≡ room → assign t p v ≡ overwrite q (w ∷ []) t
   assigned room p q {v} t h place is long =
-      within-is (λ old. v) p t (omega arith)
+      change-is t p (λ old. v) (omega arith)
       ∙ changed-to (λ old. v) v (λ x. refl) p t
       ∙ (λ j. overwrite (place j) (is j ∷ []) t)
 
   -- two elements, one after the other
   pub two-assigned : (room p q : ℕ) {v w v′ w′ : A} (t : List A) → q + 1 < room → p ≡ q → v ≡ v′ → w ≡ w′ → length t ≡ room
-      → within (λ old. w) (p + 1) (within (λ old. v) p t) ≡ overwrite q (v′ ∷ w′ ∷ []) t
+      → assign (assign t p v) (p + 1) w ≡ overwrite q (v′ ∷ w′ ∷ []) t
   two-assigned room p q {v} {w} {v′} {w′} t h place is so long =
-      ap (within (λ old. w) (p + 1)) (assigned room p q t (omega arith) place is long)
+      ap (λ (l : List A). assign l (p + 1) w) (assigned room p q t (omega arith) place is long)
       ∙ assigned room (p + 1) (q + 1) (overwrite q (v′ ∷ []) t) h (omega arith) so (length-overwrite q (v′ ∷ []) t ∙ long)
       ∙ overwrite-append q (v′ ∷ []) (w′ ∷ []) t
 
   -- three components of one element
   pub assigned-by-three : (f g h : A → A) (y : A) → ((x : A) → h (g (f x)) ≡ y) → (i : ℕ) (xs : List A) → i < length xs
-      → within h i (within g i (within f i xs)) ≡ overwrite i (y ∷ []) xs
+      → change (change (change xs i f) i g) i h ≡ overwrite i (y ∷ []) xs
   assigned-by-three f g h y same i xs l =
-      let one = within-is f i xs l in
-      let two = ap (within g i) one ∙ within-is g i (changed f i xs) (omega (arith, length-changed f i xs)) ∙ changed-twice f g i xs in
       let both : A → A = λ x. g (f x) in
-      ap (within h i) two
-      ∙ within-is h i (changed both i xs) (omega (arith, length-changed both i xs))
-      ∙ changed-twice both h i xs
+      ap (λ (t : List A). change (change t i g) i h) (change-is xs i f l)
+      ∙ ap (λ (t : List A). change t i h) (change-is (changed xs i f) i g (omega (arith, length-changed xs i f)) ∙ changed-twice xs i f g)
+      ∙ change-is (changed xs i both) i h (omega (arith, length-changed xs i both))
+      ∙ changed-twice xs i both h
       ∙ changed-to (λ x. h (both x)) y same i xs
 
   -- A loop that writes block i of c elements at place at + i * c, whatever else it reads.

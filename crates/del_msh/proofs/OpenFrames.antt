@@ -21,7 +21,7 @@ use Rattle.vec3.specs.declared.points.Point.{Point}
 use Rattle.curve.specs.Segments.{verticesIn, vertexOf, segmentOf, segmentDirection}
 use Rattle.curve.specs.Framex.{frameOf}
 use Rattle.bodies.specs.Polyline3 as paper
-use Rattle.del_msh.specs.Vectors.{vec, read, within}
+use Rattle.del_msh.specs.Vectors.{vec, read, change}
 use Rattle.del_msh.specs.DelGeoCore.{zeros}
 use Rattle.del_msh.specs.Polyline3 as rust
 use Rattle.del_msh.specs.Adapted.{chunks}
@@ -69,7 +69,7 @@ module _ (outside : Point) (c : List Float) (m : ℕ) (is : verticesIn c ≡ m +
 
   -- `vtx2bin[num_vtx - 1] = vtx2bin[num_vtx - 2]`
   last-copied : (t : List Point) → t ≡ overwrite 0 (pointsOf m (frame outside Open m c)) (vec zeros (m + 1))
-      → within (λ old. read outside t (m - 1)) m t ≡ pointsOf (m + 1) ex
+      → change t m (λ old. read outside t (m - 1)) ≡ pointsOf (m + 1) ex
   last-copied t is =
       let room = m + 1 in
       let t₀ = vec zeros room in
@@ -89,9 +89,9 @@ module _ (outside : Point) (c : List Float) (m : ℕ) (is : verticesIn c ≡ m +
       rw (sized, one, two) (last-copied _
       (frames-carried outside Open m c (m + 1) m _ _ h (omega arith)
       (λ j. firstFrame (differenceOf (vertex 1 1 (omega arith) refl j) (vertex 0 0 (omega arith) refl j)) .ex)
-      (λ i l u t j. within (λ old. transported (record { ex = read outside t (i - 1) })
+      (λ i l u t j. change t i (λ old. transported (record { ex = read outside t (i - 1) })
       (normalised (differenceOf (vertex i (i - 1 + 1) (omega arith) (omega arith) j) (vertex (i - 1) (i - 1) (omega arith) refl j)))
-      (normalised (differenceOf (vertex (i + 1) (i + 1) (omega arith) refl j) (vertex i i (omega arith) refl j))) .ex) i t)))
+      (normalised (differenceOf (vertex (i + 1) (i + 1) (omega arith) refl j) (vertex i i (omega arith) refl j))) .ex))))
 
   pub ex-at : (k g : ℕ) → g < m + 1 → k ≡ g → read outside (rust.vtx2framex outside curve) k ≡ ex g
   ex-at k g l same = (λ j. read outside (framex-is j) (same j)) ∙ point-at outside (m + 1) ex g l

@@ -9,7 +9,7 @@ use Rattle.vec3.specs.Points.{sumOf, differenceOf, scaled, crossOf, normalised}
 use Rattle.vec3.specs.Turns.{turnOf}
 use Rattle.vec3.specs.Frames.{firstFrame, transported}
 use Rattle.vec3.specs.declared.points.Point.{Point}
-use Rattle.del_msh.specs.Vectors.{within}
+use Rattle.del_msh.specs.Vectors.{change}
 
 -- `[x, y, z]` of floats; of whole numbers it is `triangle a b c`
 abbrev pub xyz : Float → Float → Float → Point
@@ -30,13 +30,13 @@ noTriangle = triangle 0 0 0
 
 -- `xs[i][0] = v`, `xs[i][1] = v`, `xs[i][2] = v`: of points, and of triangles
 abbrev pub assignX : List Point → ℕ → Float → List Point
-assignX xs i v = within (λ p. xyz v (p .y) (p .z)) i xs
+assignX xs i v = change xs i (λ p. xyz v (p .y) (p .z))
 
 abbrev pub assignY : List Point → ℕ → Float → List Point
-assignY xs i v = within (λ p. xyz (p .x) v (p .z)) i xs
+assignY xs i v = change xs i (λ p. xyz (p .x) v (p .z))
 
 abbrev pub assignZ : List Point → ℕ → Float → List Point
-assignZ xs i v = within (λ p. xyz (p .x) (p .y) v) i xs
+assignZ xs i v = change xs i (λ p. xyz (p .x) (p .y) v)
 
 abbrev pub first : ℕ → Triangle → Triangle
 first v (triangle a b c) = triangle v b c
@@ -48,13 +48,13 @@ abbrev pub third : ℕ → Triangle → Triangle
 third v (triangle a b c) = triangle a b v
 
 abbrev pub assign0 : List Triangle → ℕ → ℕ → List Triangle
-assign0 xs i v = within (first v) i xs
+assign0 xs i v = change xs i (first v)
 
 abbrev pub assign1 : List Triangle → ℕ → ℕ → List Triangle
-assign1 xs i v = within (second v) i xs
+assign1 xs i v = change xs i (second v)
 
 abbrev pub assign2 : List Triangle → ℕ → ℕ → List Triangle
-assign2 xs i v = within (third v) i xs
+assign2 xs i v = change xs i (third v)
 
 -- An angle is k/n turn; `TAU` is a whole turn, `FRAC_PI_2` a quarter, and products and quotients with whole numbers stay exact.
 pub record Angle : Type 0 where

@@ -20,18 +20,18 @@ module _ {ℓ} {A : Type ℓ} where
   read outside xs i = getD xs i outside
 
   -- xs with element i changed
-  abbrev pub changed : (A → A) → ℕ → List A → List A
-  changed change i [] = []
-  changed change zero (x ∷ xs) = change x ∷ xs
-  changed change (suc i) (x ∷ xs) = x ∷ changed change i xs
+  abbrev pub changed : List A → ℕ → (A → A) → List A
+  changed [] i f = []
+  changed (x ∷ xs) zero f = f x ∷ xs
+  changed (x ∷ xs) (suc i) f = x ∷ changed xs i f
 
   -- The same where there is an element i. Where there is none the Rust panics: nothing is left, and nothing can be assigned to it.
-  unfoldable pub within : (A → A) → ℕ → List A → List A
-  within change i xs = cond (ltb i (length xs)) (changed change i xs) []
+  unfoldable pub change : List A → ℕ → (A → A) → List A
+  change xs i f = cond (ltb i (length xs)) (changed xs i f) []
 
   -- `xs[i] = x`
   abbrev pub assign : List A → ℕ → A → List A
-  assign xs i x = within (λ old. x) i xs
+  assign xs i x = change xs i (λ old. x)
 
 -- `if test { x } else { y }`, and `if test { return x; } y`
 abbrev pub if : {A : Type 0} → Bool × A × A → A
