@@ -160,3 +160,17 @@ module _ (outside : Point) (c : List Float) (m : ℕ) (is : verticesIn c ≡ m +
       (omega (arith, length-append A (B M))))
       (omega (arith, length-append A (B M), length-append (A ++ B M) C))
       ∙ overwrite-all (parts M) t₀ (omega (arith, length-append A (B M), length-append (A ++ B M) C, length-append (A ++ B M ++ C) (top ∷ [])))
+
+  pub capsule-floats : floats (rust.to-trimesh3-capsule outside (chunks c) n L r .1) ≡ capsuleVertices n L r m c
+  capsule-floats =
+      let a = rings-floats L below n in
+      let b = rings-floats (m - 1) inner n in
+      let d = rings-floats L above n in
+      ap floats points
+      ∙ ap (λ (k : ℕ). floats (parts k)) segments
+      ∙ five-parts bottom A (B m) C top
+      ∙ (λ j. coordinates bottom ++ (a j ++ (b j ++ (d j ++ coordinates top))))
+
+  pub capsule-triangles : rust.to-trimesh3-capsule outside (chunks c) n L r .0 ≡ closedTriangles n (2 * L + m - 2)
+  unfolding rust.to-trimesh3-capsule
+  capsule-triangles = yup-triangles one one n (2 * L + M - 2) true ∙ ap (λ (k : ℕ). closedTriangles n (2 * L + k - 2)) segments

@@ -9,3 +9,4 @@ pub mod OpenFrames
 pub mod Ribbon
 pub mod Tube
 pub mod Capsule
+pub mod Torus
