@@ -10,3 +10,4 @@ pub mod Ribbon
 pub mod Tube
 pub mod Capsule
 pub mod Torus
+pub mod RustBody

@@ -6,8 +6,12 @@ use lib.Ieee.{Float}
 use lib.ListN.{length}
 use Rattle.surface.specs.Triangles.{Triangle}
 use Rattle.vec3.specs.declared.points.Point.{Point}
+use Rattle.kinds.specs.Kinds.{trianglesOf}
+use Rattle.curve.specs.Segments.{verticesIn}
+use Rattle.descriptions.specs.Descriptions.{topologyOf}
 use Rattle.descriptions.specs.declared.description.Description.{Description}
 use Rattle.descriptions.specs.declared.description.Description.the-variants.{Ribbon, Tube, Capsule, Torus, ClosedCylinder}
+use Rattle.bodies.specs.Bodies.{verticesOf}
 use Rattle.del_msh.specs.Vectors.{vec}
 use Rattle.del_msh.specs.DelGeoCore.{xyz, zeros, noTriangle}
 use Rattle.del_msh.specs.Trimesh3Primitive.{TriMesh, cylinder-open-end-number-of-tri-and-vtx, cylinder-open-end-set-topology, cylinder-closed-end-yup}
@@ -47,6 +51,10 @@ module _ (outside : Point) where
   -- the body's triangles, and the floats of its vertices
   abbrev pub rustBody : Description → List Float → List Triangle × List Float
   rustBody d c = (body d c .0, floats (body d c .1))
+
+-- document 01's: "the vertices and local triangles that this paper's definitions give its description and curve" ('The shared set')
+abbrev pub paperBody : Description → List Float → List Triangle × List Float
+paperBody d c = (trianglesOf (topologyOf d (verticesIn c)), verticesOf d c)
 
 -- What the Rust asks of its caller: what it asserts (`ndiv_circum > 2`, `ndiv_length >= 1`, of a capsule 2L + m − 2), and the two vertices of the
 -- first segment, which it reads untested. A tube's slices have a length to divide.

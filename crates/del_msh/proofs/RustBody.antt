@@ -1,0 +1,49 @@
+-- The bodies of the Rust are document 01's, for every description and curve: demand 2's "those of the named Rust functions", with the stand-ins
+-- under them. Assumes nothing.
+use mathlib.Core.Path.{_≡_, refl}
+use mathlib.Core.List.{List}
+use Prim.Native.Nat.{ℕ, _+_, _-_, _*_}
+use native.Mathlib.Omega.{arith}
+use lib.Ieee.{Float}
+use lib.ListN.{length}
+use Rattle.vec3.specs.declared.points.Point.{Point}
+use Rattle.kinds.specs.declared.topology.Topology.{Topology}
+use Rattle.kinds.specs.Lists.{tubeTriangles}
+use Rattle.curve.specs.Segments.{verticesIn}
+use Rattle.descriptions.specs.Answers.{accepted}
+use Rattle.descriptions.specs.Descriptions.{topologyOf}
+use Rattle.descriptions.specs.Refusals.{ShapePermitted, checkedTests, checkedOf}
+use Rattle.descriptions.specs.declared.description.Description.{Description}
+use Rattle.descriptions.specs.declared.description.Description.the-variants.{Ribbon, Tube, Capsule, Torus, ClosedCylinder}
+use Rattle.descriptions.proofs.FirstOf.{accepted-by}
+use Rattle.descriptions.proofs.Shapes.{shape-bounds, checked-shape}
+use Rattle.bodies.specs.Polyline3 as paper
+use Rattle.del_msh.specs.Trimesh3Primitive.{cylinder-open-end-number-of-tri-and-vtx}
+use Rattle.del_msh.specs.Adapted.{chunks, floats, tube, rustBody, paperBody, Asked}
+use Rattle.del_msh.proofs.Topology.{open-topology}
+use Rattle.del_msh.proofs.ClosedCylinder.{yup-floats, yup-triangles}
+use Rattle.del_msh.proofs.OpenFrames.{sized}
+use Rattle.del_msh.proofs.Ribbon.{ribbon-floats, ribbon-triangles}
+use Rattle.del_msh.proofs.Tube.{tube-floats}
+use Rattle.del_msh.proofs.Capsule.{capsule-floats, capsule-triangles}
+use Rattle.del_msh.proofs.Torus.{torus-floats, torus-triangles}
+
+pub rust-body : (outside : Point) (d : Description) (c : List Float) → Asked d (verticesIn c) → rustBody outside d c ≡ paperBody d c
+unfolding cylinder-open-end-number-of-tri-and-vtx
+rust-body outside (Ribbon width) c two =
+    let m = verticesIn c - 1 in
+    let is : verticesIn c ≡ m + 1 = omega arith in
+    λ j. (ribbon-triangles outside c m is (omega arith) width j, ribbon-floats outside c m is (omega arith) width j)
+rust-body outside (Tube n r) c two =
+    let m = verticesIn c - 1 in
+    let is : verticesIn c ≡ m + 1 = omega arith in
+    let long = sized outside c m is (omega arith) in
+    let one : m + 1 - 1 ≡ m = omega arith in
+    rw (long, one) (λ j. (open-topology n m (omega arith) j, tube-floats outside c m is (omega arith) r n j))
+rust-body outside (Capsule n L r) c (three, two, steps) =
+    let m = verticesIn c - 1 in
+    let is : verticesIn c ≡ m + 1 = omega arith in
+    λ j. (capsule-triangles outside c m is (omega arith) r n L steps j, capsule-floats outside c m is (omega arith) r n L steps j)
+rust-body outside (Torus n r) c two =
+    λ j. (torus-triangles outside c (verticesIn c) refl two r n j, torus-floats outside c (verticesIn c) refl two r n j)
+rust-body outside (ClosedCylinder n S centred r l) c asked = λ j. (yup-triangles r l n S centred j, yup-floats r l n S centred j)
