@@ -47,3 +47,18 @@ rust-body outside (Capsule n L r) c (three, two, steps) =
 rust-body outside (Torus n r) c two =
     λ j. (torus-triangles outside c (verticesIn c) refl two r n j, torus-floats outside c (verticesIn c) refl two r n j)
 rust-body outside (ClosedCylinder n S centred r l) c asked = λ j. (yup-triangles r l n S centred j, yup-floats r l n S centred j)
+
+-- what 10, 20 and 21 permit has all that the Rust asks
+permitted-asked : (d : Description) (N : ℕ) → ShapePermitted d N → Asked d N
+permitted-asked (Ribbon width) N h = omega (arith, shape-bounds (Ribbon width) N h)
+permitted-asked (Tube n r) N h = let b = shape-bounds (Tube n r) N h in omega (arith, b .1 .0)
+permitted-asked (Capsule n L r) N h = let b = shape-bounds (Capsule n L r) N h in (b .0 .0, omega (arith, b .1 .0), b .3)
+permitted-asked (Torus n r) N h = let b = shape-bounds (Torus n r) N h in omega (arith, b .1 .0)
+permitted-asked (ClosedCylinder n S centred r l) N h = let b = shape-bounds (ClosedCylinder n S centred r l) N h in (b .0 .0, b .1 .0)
+
+-- so it holds of all that `check` accepts, and add with it
+pub rust-body-accepted : (outside : Point) (d : Description) (c : List Float) {body : Topology} → accepted body ≡ checkedOf d c
+    → rustBody outside d c ≡ paperBody d c
+rust-body-accepted outside d c answer =
+    let told = accepted-by (checkedTests d c) (topologyOf d (verticesIn c)) answer in
+    rust-body outside d c (permitted-asked d (verticesIn c) (checked-shape d c (told .1) .1))
