@@ -5,6 +5,7 @@ use mathlib.Core.List.{List, [], _∷_, _++_, append-assoc}
 use Prim.Native.Nat.{ℕ, _+_, _-_, _*_, _≤_, _<_}
 use native.Mathlib.Nat.{one-mul}
 use native.Mathlib.Omega.{arith}
+use borrow.Author.Tests.{lt-ltb, eq-eqb}
 use lib.Ieee.{Float, neg}
 use lib.ListN.{length, length-append}
 use Rattle.laws.specs.Overlaps.{overwrite-all}
@@ -41,7 +42,7 @@ five-parts bottom a b e top = ap (λ (l : List Float). coordinates bottom ++ l) 
     ∙ append-assoc (floats a ++ floats b) (floats e) (coordinates top)
     ∙ append-assoc (floats a) (floats b) (floats e ++ coordinates top))
 
-module _ (outside : Point) (c : List Float) (m : ℕ) (is : verticesIn c ≡ m + 1) (h : 1 ≤ m) (r : Float) (n L : ℕ) (steps : 3 ≤ 2 * L + m) where
+module _ (outside : Point) (c : List Float) (m : ℕ) (is : verticesIn c ≡ m + 1) (h : 1 ≤ m) (r : Float) (n L : ℕ) (three : 2 < n) (steps : 3 ≤ 2 * L + m) where
   -- `ndiv_length`
   abbrev M : ℕ
   M = length (chunks c) - 1
@@ -136,12 +137,14 @@ module _ (outside : Point) (c : List Float) (m : ℕ) (is : verticesIn c ≡ m +
   points =
       let e = segments in
       let rings : 2 * L + M - 2 + 1 ≡ L + (M - 1) + L = omega arith in
+      let less : L + (M - 1) + L ≡ 2 * L + M - 1 = omega arith in
       let room = (L + (M - 1) + L) * n + 2 in
       let t₀ = cylinder-closed-end-yup one one n (2 * L + M - 2) true .1 in
-      let long : length t₀ ≡ room = yup-length one one n (2 * L + M - 2) true ∙ ap (λ (k : ℕ). n * k + 2) rings ∙ omega arith in
+      let long : length t₀ ≡ room = yup-length one one n (2 * L + M - 2) true three (omega arith) ∙ ap (λ (k : ℕ). n * k + 2) rings ∙ omega arith in
       let a = length-rings L below n in
       let b = length-rings (M - 1) inner n in
       let d = length-rings L above n in
+      rw (lt-ltb 2 n three, eq-eqb (length t₀) ((2 * L + M - 1) * n + 2) (long ∙ ap (λ (k : ℕ). k * n + 2) less)) (
       behind room (1 + (L + (M - 1) + L) * n) ((bottom ∷ []) ++ A ++ B M ++ C) (top ∷ []) t₀ long
       (last-assigned-by-three room (1 + (L + (M - 1) + L) * n) _ (omega arith) top-is)
       (behind room (1 + (L + (M - 1)) * n) ((bottom ∷ []) ++ A ++ B M) C t₀ long
@@ -159,7 +162,7 @@ module _ (outside : Point) (c : List Float) (m : ℕ) (is : verticesIn c ≡ m +
       (omega arith))
       (omega (arith, length-append A (B M))))
       (omega (arith, length-append A (B M), length-append (A ++ B M) C))
-      ∙ overwrite-all (parts M) t₀ (omega (arith, length-append A (B M), length-append (A ++ B M) C, length-append (A ++ B M ++ C) (top ∷ [])))
+      ∙ overwrite-all (parts M) t₀ (omega (arith, length-append A (B M), length-append (A ++ B M) C, length-append (A ++ B M ++ C) (top ∷ []))))
 
   pub capsule-floats : floats (rust.to-trimesh3-capsule outside (chunks c) n L r .1) ≡ capsuleVertices n L r m c
   capsule-floats =
@@ -173,4 +176,6 @@ module _ (outside : Point) (c : List Float) (m : ℕ) (is : verticesIn c ≡ m +
 
   pub capsule-triangles : rust.to-trimesh3-capsule outside (chunks c) n L r .0 ≡ closedTriangles n (2 * L + m - 2)
   unfolding rust.to-trimesh3-capsule
-  capsule-triangles = yup-triangles one one n (2 * L + M - 2) true ∙ ap (λ (k : ℕ). closedTriangles n (2 * L + k - 2)) segments
+  capsule-triangles =
+      let e = segments in
+      rw (lt-ltb 2 n three) (yup-triangles one one n (2 * L + M - 2) true three (omega arith) ∙ ap (λ (k : ℕ). closedTriangles n (2 * L + k - 2)) segments)

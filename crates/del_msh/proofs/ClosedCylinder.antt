@@ -2,9 +2,9 @@
 use mathlib.Core.Path.{_≡_, refl, sym, ap, _∙_}
 use mathlib.Core.Bool.{Bool, cond}
 use mathlib.Core.List.{List, [], _∷_, _++_, append-assoc}
-use Prim.Native.Nat.{ℕ, _+_, _-_, _*_}
-use native.Mathlib.Nat.{mul-suc}
+use Prim.Native.Nat.{ℕ, _+_, _-_, _*_, _≤_, _<_}
 use native.Mathlib.Omega.{arith}
+use borrow.Author.Tests.{lt-ltb, le-leb}
 use lib.Ieee.{Float, binary32, ofBits, add, div, neg}
 use lib.ListN.{length, length-append, length-replicate}
 use Rattle.laws.specs.Overwrite.{overwrite, length-overwrite}
@@ -39,7 +39,8 @@ pub closed-floats : (bottom : Point) (rings : List Point) (top : Point)
     → floats (((bottom ∷ []) ++ rings) ++ (top ∷ [])) ≡ coordinates bottom ++ (floats rings ++ coordinates top)
 closed-floats bottom rings top = ap (λ (l : List Float). coordinates bottom ++ l) (floats-append rings (top ∷ []))
 
-module _ (r l : Float) (n S : ℕ) (centred : Bool) where
+-- the sizes that it asserts
+module _ (r l : Float) (n S : ℕ) (centred : Bool) (three : 2 < n) (some : 1 ≤ S) where
   abbrev bottom : Point
   bottom = pole (lowOf centred l)
 
@@ -60,6 +61,7 @@ module _ (r l : Float) (n S : ℕ) (centred : Bool) where
       let sized : length t₀ ≡ room = length-replicate room zeros in
       let low = low-is centred l in
       let e = length-rings (S + 1) vertex n in
+      rw (lt-ltb 2 n three, le-leb 1 S some) (
       behind room (n * (S + 1) + 1) ((bottom ∷ []) ++ rings) (top ∷ []) t₀ sized
       (assigned room (room - 1) (n * (S + 1) + 1) _ (omega arith) (omega arith) (ap (λ (y : Float). pole (plus y l)) low))
       (behind room 1 (bottom ∷ []) rings t₀ sized
@@ -69,7 +71,7 @@ module _ (r l : Float) (n S : ℕ) (centred : Bool) where
       (assigned room 0 0 t₀ (omega arith) refl (ap pole low) sized)
       refl)
       (omega arith)
-      ∙ overwrite-all (((bottom ∷ []) ++ rings) ++ (top ∷ [])) t₀ (omega (arith, length-append rings (top ∷ [])))
+      ∙ overwrite-all (((bottom ∷ []) ++ rings) ++ (top ∷ [])) t₀ (omega (arith, length-append rings (top ∷ []))))
 
   pub yup-length : length (cylinder-closed-end-yup r l n S centred .1) ≡ n * (S + 1) + 2
   yup-length = ap length yup-vertices ∙ omega (arith, length-append rings (top ∷ []), length-rings (S + 1) vertex n)

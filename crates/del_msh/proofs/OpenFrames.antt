@@ -7,7 +7,7 @@ use Prim.Native.Nat.{ℕ, zero, suc, _+_, _-_, _*_, _≤_, _<_}
 use native.Mathlib.Nat.{eq-or-lt-of-le, le-of-suc-le-suc}
 use native.Mathlib.Numerals.{add-one}
 use native.Mathlib.Omega.{arith}
-use borrow.Author.Tests.{eq-eqb, ne-eqb}
+use borrow.Author.Tests.{eq-eqb, ne-eqb, lt-ltb}
 use lib.Dec.{eqb}
 use lib.Ieee.{Float}
 use lib.ListN.{length, length-replicate}
@@ -43,13 +43,16 @@ module _ (outside : Point) (c : List Float) (m : ℕ) (is : verticesIn c ≡ m +
 
   pub framez-is : (g : ℕ) → g < m + 1 → rust.framez outside curve g ≡ paper.framez m c g
   unfolding rust.framez paper.framez segmentDirection segmentOf
-  framez-is zero l = λ j. normalised (differenceOf (vertex 1 1 (omega arith) refl j) (vertex 0 0 (omega arith) refl j))
+  framez-is zero l =
+      rw (lt-ltb 0 (length curve) (omega (arith, sized)))
+      (λ j. normalised (differenceOf (vertex 1 1 (omega arith) refl j) (vertex 0 0 (omega arith) refl j)))
   framez-is (suc g) l =
       let long = sized in
+      let within = lt-ltb (suc g) (length curve) (omega arith) in
       ⊎-elim
-      (λ (last : suc g ≡ m). rw (ne-eqb (suc g) 0 (λ e. omega arith), eq-eqb (suc g) (length curve - 1) (omega arith), eq-eqb (suc g) m last)
+      (λ (last : suc g ≡ m). rw (within, ne-eqb (suc g) 0 (λ e. omega arith), eq-eqb (suc g) (length curve - 1) (omega arith), eq-eqb (suc g) m last)
       (λ j. normalised (differenceOf (vertex (length curve - 1) (m - 1 + 1) (omega arith) (omega arith) j) (vertex (length curve - 2) (m - 1) (omega arith) (omega arith) j))))
-      (λ (inner : suc g < m). rw (ne-eqb (suc g) 0 (λ e. omega arith), ne-eqb (suc g) (length curve - 1) (λ e. omega arith), ne-eqb (suc g) m (λ e. omega arith))
+      (λ (inner : suc g < m). rw (within, ne-eqb (suc g) 0 (λ e. omega arith), ne-eqb (suc g) (length curve - 1) (λ e. omega arith), ne-eqb (suc g) m (λ e. omega arith))
       (λ j. normalised (sumOf
       (normalised (differenceOf (vertex (suc g) (suc g - 1 + 1) (omega arith) (omega arith) j) (vertex (suc g - 1) (suc g - 1) (omega arith) refl j)))
       (normalised (differenceOf (vertex (suc g + 1) (suc g + 1) (omega arith) refl j) (vertex (suc g) (suc g) l refl j))))))
@@ -102,7 +105,8 @@ module _ (outside : Point) (c : List Float) (m : ℕ) (is : verticesIn c ≡ m +
       let room = m + 1 in
       let t₀ = vec zeros room in
       let long : length t₀ ≡ room = length-replicate room zeros in
-      rw sized (fills room 0 1 (λ g. paper.vtx2framey m c g ∷ []) _ t₀ (λ g. refl) (λ g l t as-long.
+      let as-many : length (rust.vtx2framex outside curve) ≡ room = ap length framex-is ∙ length-points room ex in
+      rw (sized, eq-eqb (length (rust.vtx2framex outside curve)) room as-many) (fills room 0 1 (λ g. paper.vtx2framey m c g ∷ []) _ t₀ (λ g. refl) (λ g l t as-long.
       assigned room g (0 + g * 1) t (omega arith) (omega arith) (λ j. crossOf (framez-is g l j) (ex-at g g l refl j)) (as-long ∙ long))
       ∙ overwrite-all (pointsOf room (paper.vtx2framey m c)) t₀ (omega (arith, length-points room (paper.vtx2framey m c))))
 

@@ -43,10 +43,10 @@ rust-body outside (Tube n r) c two =
 rust-body outside (Capsule n L r) c (three, two, steps) =
     let m = verticesIn c - 1 in
     let is : verticesIn c ≡ m + 1 = omega arith in
-    λ j. (capsule-triangles outside c m is (omega arith) r n L steps j, capsule-floats outside c m is (omega arith) r n L steps j)
+    λ j. (capsule-triangles outside c m is (omega arith) r n L three steps j, capsule-floats outside c m is (omega arith) r n L three steps j)
 rust-body outside (Torus n r) c two =
     λ j. (torus-triangles outside c (verticesIn c) refl two r n j, torus-floats outside c (verticesIn c) refl two r n j)
-rust-body outside (ClosedCylinder n S centred r l) c asked = λ j. (yup-triangles r l n S centred j, yup-floats r l n S centred j)
+rust-body outside (ClosedCylinder n S centred r l) c (three, some) = λ j. (yup-triangles r l n S centred three some j, yup-floats r l n S centred three some j)
 
 -- what 10, 20 and 21 permit has all that the Rust asks
 permitted-asked : (d : Description) (N : ℕ) → ShapePermitted d N → Asked d N

@@ -4,6 +4,7 @@ use mathlib.Core.List.{List, [], _∷_, _++_, append-assoc}
 use Prim.Native.Nat.{ℕ, _+_, _-_, _*_, _/_, _%_, _≤_, _<_}
 use native.Mathlib.Nat.{add-zero, mod-eq-of-lt, mul-div-cancel, mul-le-mul-right}
 use native.Mathlib.Omega.{arith}
+use borrow.Author.Tests.{eq-eqb}
 use lib.ListN.{length, length-replicate}
 use Rattle.laws.specs.Overwrite.{overwrite, overwrite-append, length-overwrite}
 use Rattle.laws.specs.Overlaps.{overwrite-all}
@@ -73,7 +74,7 @@ open-topology n m h =
     let sized : length (vec noTriangle (m * n * 2)) ≡ m * n * 2 = length-replicate (m * n * 2) noTriangle in
     let same : m * n * 2 ≡ n * (2 * m) = omega arith in
     let round : length (vec noTriangle (m * n * 2)) / (2 * m) ≡ n = ap (λ (k : ℕ). k / (2 * m)) (sized ∙ same) ∙ mul-div-cancel n (omega arith) in
-    rw (side, round) (
+    rw (side, round, eq-eqb (length (vec noTriangle (m * n * 2))) (m * n * 2) sized) (
     fills m 0 (n * 2) (λ g. blocks n (tubeQuad n g)) _ (vec noTriangle (m * n * 2)) (length-row n)
     (λ g hg t long. fills n (0 + g * (n * 2)) 2 (tubeQuad n g) _ t (λ i. refl)
     (λ i hi t′ as-long.

@@ -2,13 +2,13 @@
 use mathlib.Core.Bool.{true}
 use mathlib.Core.List.{List}
 use Prim.Native.Nat.{ℕ, _+_, _-_, _*_, _/_}
-use lib.Dec.{eqb}
+use lib.Dec.{eqb, ltb}
 use lib.Ieee.{Float, neg}
 use lib.ListN.{length}
 use Rattle.surface.specs.Triangles.{triangle}
 use Rattle.vec3.specs.Points.{times}
 use Rattle.vec3.specs.declared.points.Point.{Point}
-use Rattle.del_msh.specs.Vectors.{vec, read, assign, if, for, _‥_}
+use Rattle.del_msh.specs.Vectors.{vec, read, assert, assign, if, for, _‥_}
 use Rattle.del_msh.specs.DelGeoCore.{one, zeros, noTriangle, assignX, assignY, assignZ, TAU, FRAC-PI-2, mul, div, cos, sin}
 use Rattle.del_msh.specs.DelGeoCore.{add, sub, scale, cross, normalize, basis-xy-from-basis-z, minimum-rotation-matrix, mult-vec}
 use Rattle.del_msh.specs.Trimesh3Primitive.{TriMesh, cylinder-closed-end-yup}
@@ -50,6 +50,7 @@ module _ (outside : Point) where
   unfoldable pub framez : List Point → ℕ → Point
   framez vtx2xyz i-vtx =
       let num-vtx = length vtx2xyz in
+      let vtx2xyz = assert (ltb i-vtx num-vtx) vtx2xyz in
       if (
         eqb i-vtx 0,
         let p1 = vtx2xyz at 0 in
@@ -72,6 +73,7 @@ module _ (outside : Point) where
   unfoldable pub vtx2framey : List Point → List Point → List Point
   vtx2framey vtx2xyz vtx2framex =
       let num-vtx = length vtx2xyz in
+      let vtx2framex = assert (eqb (length vtx2framex) num-vtx) vtx2framex in
       let vtx2framey = vec zeros num-vtx in
       for (
         0 ‥ num-vtx,
@@ -107,6 +109,7 @@ module _ (outside : Point) where
 
   unfoldable pub to-trimesh3-capsule : List Point → ℕ → ℕ → Float → TriMesh
   to-trimesh3-capsule vtxl2xyz ndiv-circum ndiv-longtitude r =
+      let vtxl2xyz = assert (ltb 2 ndiv-circum) vtxl2xyz in
       let num-vtxl = length vtxl2xyz in
       let vtxl2framex = vtx2framex vtxl2xyz in
       let vtxl2framey = vtx2framey vtxl2xyz vtxl2framex in
@@ -114,6 +117,7 @@ module _ (outside : Point) where
       let tri2vtx-vtx2xyz = cylinder-closed-end-yup one one ndiv-circum (2 * ndiv-longtitude + ndiv-length - 2) true in
       let tri2vtx = tri2vtx-vtx2xyz .0 in
       let vtx2xyz = tri2vtx-vtx2xyz .1 in
+      let vtx2xyz = assert (eqb (length vtx2xyz) ((2 * ndiv-longtitude + ndiv-length - 1) * ndiv-circum + 2)) vtx2xyz in
       -- south pole
       let p0 = vtxl2xyz at 0 in
       let ez = framez vtxl2xyz 0 in

@@ -1,15 +1,16 @@
 -- The open cylinder's triangles and the closed cylinder, after trimesh3_primitive.rs of del-msh (see NOTICE): functions, names and order are the
--- source's, as tests/src/del_msh/trimesh3_primitive.rs has them. Its `assert!` are conditions of the theorem. Definitions only.
+-- source's, as tests/src/del_msh/trimesh3_primitive.rs has them. Definitions only.
 use mathlib.Core.Bool.{Bool}
 use mathlib.Core.List.{List, []}
 use Prim.Native.Nat.{ℕ, _+_, _-_, _*_, _/_, _%_}
+use lib.Dec.{eqb, leb, ltb}
 use lib.Ieee.{Float, neg}
 use lib.ListN.{length}
 use Rattle.surface.specs.Triangles.{Triangle, triangle}
 use Rattle.vec3.specs.Points.{plus, times, over}
 use Rattle.vec3.specs.Turns.{whole}
 use Rattle.vec3.specs.declared.points.Point.{Point}
-use Rattle.del_msh.specs.Vectors.{vec, push, assign, if, for, _‥_}
+use Rattle.del_msh.specs.Vectors.{vec, push, assert, assign, if, for, _‥_}
 use Rattle.del_msh.specs.DelGeoCore.{xyz, zero, one, zeros, assign0, assign1, assign2, TAU, mul, div, cos, sin}
 
 -- `(Vec<[usize; 3]>, Vec<[f32; 3]>)`: triangles and vertices
@@ -26,6 +27,7 @@ unfoldable pub cylinder-open-end-set-topology : List Triangle → ℕ → List T
 cylinder-open-end-set-topology tri2vtx num-vtxc =
     let ndiv-side = num-vtxc - 1 in
     let ndiv-circumference = length tri2vtx / (2 * ndiv-side) in
+    let tri2vtx = assert (eqb (length tri2vtx) (ndiv-side * ndiv-circumference * 2)) tri2vtx in
     for (
       0 ‥ ndiv-side,
       λ i-side tri2vtx.
@@ -82,6 +84,8 @@ unfoldable pub cylinder-closed-end-yup : Float → Float → ℕ → ℕ → Boo
 cylinder-closed-end-yup radius length ndiv-circumference ndiv-length is-center =
     let num-vtx = ndiv-circumference * (ndiv-length + 1) + 2 in
     let vtx2xyz = vec zeros num-vtx in
+    let vtx2xyz = assert (leb 1 ndiv-length) vtx2xyz in
+    let vtx2xyz = assert (ltb 2 ndiv-circumference) vtx2xyz in
     let two = plus one one in
     let half = over one two in
     let dl = over length (whole ndiv-length) in

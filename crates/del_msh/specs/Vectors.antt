@@ -19,6 +19,10 @@ module _ {ℓ} {A : Type ℓ} where
   abbrev pub read : A → List A → ℕ → A
   read outside xs i = getD xs i outside
 
+  -- `assert!(test)`, beside the vector that the lines after it use. Where it fails the Rust panics: nothing is left.
+  abbrev pub assert : Bool → List A → List A
+  assert test xs = cond test xs []
+
   -- xs with element i changed
   abbrev pub changed : List A → ℕ → (A → A) → List A
   changed [] i f = []
