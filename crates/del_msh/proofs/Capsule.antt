@@ -1,5 +1,5 @@
 -- The capsule of polyline3.rs is document 01's: of the closed cylinder that it begins with, only the triangles are left. Assumes nothing.
-use mathlib.Core.Path.{_≡_, refl, sym, ap, _∙_}
+use mathlib.Core.Path.{_≡_, refl, ap, _∙_}
 use mathlib.Core.Bool.{true}
 use mathlib.Core.List.{List, [], _∷_, _++_, append-assoc}
 use Prim.Native.Nat.{ℕ, _+_, _-_, _*_, _≤_, _<_}
@@ -18,9 +18,10 @@ use Rattle.kinds.specs.Lists.{closedTriangles}
 use Rattle.curve.specs.Segments.{verticesIn}
 use Rattle.rings.specs.Vertices.{coordinates, bottomPole, topPole, bottomVertex, topVertex, capVertex}
 use Rattle.bodies.specs.Polyline3 as paper
-use Rattle.bodies.specs.Capsule.{capRings, capsuleVertices}
+use Rattle.bodies.specs.Capsule.{capsuleVertices}
 use Rattle.del_msh.specs.Vectors.{read}
-use Rattle.del_msh.specs.DelGeoCore.{one, TAU, FRAC-PI-2, mul, div, cos, sin}
+use Rattle.del_msh.specs.Arrays.{one}
+use Rattle.del_msh.specs.DelGeoCore.{TAU, FRAC-PI-2, mul, div, cos, sin}
 use Rattle.del_msh.specs.Trimesh3Primitive.{cylinder-closed-end-yup}
 use Rattle.del_msh.specs.Polyline3 as rust
 use Rattle.del_msh.specs.Adapted.{chunks, floats}

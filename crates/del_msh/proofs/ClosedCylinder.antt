@@ -1,23 +1,23 @@
 -- The closed cylinder of trimesh3_primitive.rs is document 01's. Assumes nothing.
-use mathlib.Core.Path.{_≡_, refl, sym, ap, _∙_}
+use mathlib.Core.Path.{_≡_, refl, ap, _∙_}
 use mathlib.Core.Bool.{Bool, cond}
-use mathlib.Core.List.{List, [], _∷_, _++_, append-assoc}
+use mathlib.Core.List.{List, [], _∷_, _++_}
 use Prim.Native.Nat.{ℕ, _+_, _-_, _*_, _≤_, _<_}
 use native.Mathlib.Omega.{arith}
 use borrow.Author.Tests.{lt-ltb, le-leb}
 use lib.Ieee.{Float, binary32, ofBits, add, div, neg}
 use lib.ListN.{length, length-append, length-replicate}
-use Rattle.laws.specs.Overwrite.{overwrite, length-overwrite}
 use Rattle.laws.specs.Overlaps.{overwrite-all}
 use Rattle.vec3.specs.Points.{plus, times, over}
-use Rattle.vec3.specs.Turns.{whole, turnOf}
+use Rattle.vec3.specs.Turns.{whole}
 use Rattle.vec3.specs.declared.points.Point.{Point}
 use Rattle.vec3.specs.declared.turns.Direction.{Direction}
 use Rattle.rings.specs.Vertices.{coordinates, levelVertex, pole}
 use Rattle.kinds.specs.Lists.{closedTriangles}
-use Rattle.bodies.specs.ClosedCylinder.{lowOf, cylinderRings, cylinderVertices}
+use Rattle.bodies.specs.ClosedCylinder.{lowOf, cylinderVertices}
 use Rattle.del_msh.specs.Vectors.{vec}
-use Rattle.del_msh.specs.DelGeoCore.{xyz, zero, one, zeros, cos, sin}
+use Rattle.del_msh.specs.Arrays.{xyz, zero, one, zeros}
+use Rattle.del_msh.specs.DelGeoCore.{cos, sin}
 use Rattle.del_msh.specs.Trimesh3Primitive.{cylinder-closed-end-yup}
 use Rattle.del_msh.specs.Adapted.{floats}
 use Rattle.del_msh.proofs.Loops.{assigned}

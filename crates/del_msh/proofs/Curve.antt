@@ -1,5 +1,5 @@
 -- The points that the curve's floats are cut into are document 01's vertices. Assumes nothing.
-use mathlib.Core.Path.{_≡_, refl, ap, _∙_}
+use mathlib.Core.Path.{_≡_, refl, _∙_}
 use mathlib.Core.List.{List, [], _∷_}
 use Prim.Native.Nat.{ℕ, zero, suc, _+_, _*_, _<_}
 use native.Mathlib.Nat.{not-suc-le-zero}
@@ -10,7 +10,7 @@ use lib.ListN.{length, getD}
 use Rattle.vec3.specs.declared.points.Point.{Point}
 use Rattle.curve.specs.Segments.{verticesIn, vertexOf}
 use Rattle.del_msh.specs.Vectors.{read}
-use Rattle.del_msh.specs.DelGeoCore.{xyz}
+use Rattle.del_msh.specs.Arrays.{xyz}
 use Rattle.del_msh.specs.Adapted.{chunks}
 
 pub length-chunks : (c : List Float) → length (chunks c) ≡ verticesIn c

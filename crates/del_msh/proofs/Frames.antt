@@ -5,17 +5,16 @@ use Prim.Native.Nat.{ℕ, zero, suc, _+_, _-_, _*_, _≤_, _<_}
 use native.Mathlib.Nat.{not-suc-le-zero, zero-add}
 use native.Mathlib.Omega.{arith}
 use lib.Ieee.{Float}
-use lib.ListN.{length, getD, length-replicate}
+use lib.ListN.{length, length-replicate}
 use Rattle.laws.specs.Overwrite.{overwrite, length-overwrite, getD-within}
 use Rattle.laws.specs.Blocks.{blocks, length-blocks, getD-blocks}
 use Rattle.surface.specs.declared.grid.Chain.{Chain}
 use Rattle.vec3.specs.Frames.{transported}
 use Rattle.vec3.specs.declared.points.Point.{Point}
-use Rattle.vec3.specs.declared.frames.Frame.{Frame}
 use Rattle.curve.specs.Segments.{segmentDirection}
 use Rattle.curve.specs.Framex.{frameOf}
 use Rattle.del_msh.specs.Vectors.{vec, read, change, turns}
-use Rattle.del_msh.specs.DelGeoCore.{zeros}
+use Rattle.del_msh.specs.Arrays.{zeros}
 use Rattle.del_msh.proofs.Loops.{assigned, writes}
 
 -- a point for each vertex

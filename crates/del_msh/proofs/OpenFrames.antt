@@ -2,18 +2,17 @@
 use mathlib.Core.Path.{_≡_, refl, sym, ap, _∙_}
 use mathlib.Core.Bool.{Bool, cond}
 use mathlib.Core.Logic.{⊎-elim}
-use mathlib.Core.List.{List, [], _∷_, _++_}
+use mathlib.Core.List.{List, [], _∷_}
 use Prim.Native.Nat.{ℕ, zero, suc, _+_, _-_, _*_, _≤_, _<_}
-use native.Mathlib.Nat.{eq-or-lt-of-le, le-of-suc-le-suc}
+use native.Mathlib.Nat.{eq-or-lt-of-le}
 use native.Mathlib.Numerals.{add-one}
 use native.Mathlib.Omega.{arith}
 use borrow.Author.Tests.{eq-eqb, ne-eqb, lt-ltb}
-use lib.Dec.{eqb}
 use lib.Ieee.{Float}
 use lib.ListN.{length, length-replicate}
 use Rattle.laws.specs.Overwrite.{overwrite}
 use Rattle.laws.specs.Overlaps.{overwrite-all}
-use Rattle.laws.specs.Blocks.{blocks, blocks-cong}
+use Rattle.laws.specs.Blocks.{blocks-cong}
 use Rattle.surface.specs.declared.grid.Chain.the-variants.{Open}
 use Rattle.vec3.specs.Points.{sumOf, differenceOf, crossOf, normalised}
 use Rattle.vec3.specs.Frames.{firstFrame, transported}
@@ -22,7 +21,7 @@ use Rattle.curve.specs.Segments.{verticesIn, vertexOf, segmentOf, segmentDirect
 use Rattle.curve.specs.Framex.{frameOf}
 use Rattle.bodies.specs.Polyline3 as paper
 use Rattle.del_msh.specs.Vectors.{vec, read, change}
-use Rattle.del_msh.specs.DelGeoCore.{zeros}
+use Rattle.del_msh.specs.Arrays.{zeros}
 use Rattle.del_msh.specs.Polyline3 as rust
 use Rattle.del_msh.specs.Adapted.{chunks}
 use Rattle.del_msh.proofs.Loops.{assigned, fills}

@@ -7,14 +7,14 @@ use lib.Ieee.{Float}
 use lib.ListN.{length, length-replicate}
 use Rattle.laws.specs.Overlaps.{overwrite-all}
 use Rattle.laws.specs.Blocks.{blocks, length-blocks}
-use Rattle.surface.specs.Triangles.{Triangle, triangle}
+use Rattle.surface.specs.Triangles.{triangle}
 use Rattle.vec3.specs.Points.{sumOf, scaled}
 use Rattle.vec3.specs.declared.points.Point.{Point}
 use Rattle.kinds.specs.Lists.{ribbonQuad, ribbonTriangles}
 use Rattle.curve.specs.Segments.{verticesIn, vertexOf}
 use Rattle.bodies.specs.Polyline3 as paper
 use Rattle.del_msh.specs.Vectors.{vec}
-use Rattle.del_msh.specs.DelGeoCore.{zeros, noTriangle}
+use Rattle.del_msh.specs.Arrays.{zeros, zeroTriangle}
 use Rattle.del_msh.specs.Polyline3 as rust
 use Rattle.del_msh.specs.Adapted.{chunks, floats}
 use Rattle.del_msh.proofs.Loops.{two-assigned, fills}
@@ -45,8 +45,8 @@ module _ (outside : Point) (c : List Float) (m : ℕ) (is : verticesIn c ≡ m +
   ribbon-triangles =
       let one : m + 1 - 1 ≡ m = omega arith in
       let room = m * 2 in
-      let t₀ = vec noTriangle room in
-      let long : length t₀ ≡ room = length-replicate room noTriangle in
+      let t₀ = vec zeroTriangle room in
+      let long : length t₀ ≡ room = length-replicate room zeroTriangle in
       rw (sized outside c m is h, one) (fills m 0 2 ribbonQuad _ t₀ (λ g. refl) (λ g l t as-long.
       let same : g * 2 ≡ 2 * g = omega arith in
       two-assigned room (g * 2) (0 + g * 2) t (omega arith) (omega arith)

@@ -4,7 +4,6 @@ use mathlib.Core.List.{List, [], _∷_, _++_}
 use Prim.Native.Nat.{ℕ, _+_, _-_, _*_, _≤_, _<_}
 use native.Mathlib.Nat.{one-mul, zero-add}
 use native.Mathlib.Omega.{arith}
-use lib.Ieee.{Float}
 use lib.ListN.{length}
 use Rattle.laws.specs.Overwrite.{overwrite, length-overwrite, written-behind}
 use Rattle.laws.specs.Products.{row-within}
@@ -14,7 +13,7 @@ use Rattle.vec3.specs.declared.points.Point.{Point}
 use Rattle.vec3.specs.declared.turns.Direction.{Direction}
 use Rattle.rings.specs.Vertices.{ringOf}
 use Rattle.del_msh.specs.Vectors.{turns}
-use Rattle.del_msh.specs.DelGeoCore.{xyz, assignX, assignY, assignZ}
+use Rattle.del_msh.specs.Arrays.{xyz, assignX, assignY, assignZ}
 use Rattle.del_msh.specs.Adapted.{floats}
 use Rattle.del_msh.proofs.Loops.{assigned-by-three, fills, pushes}
 use Rattle.del_msh.proofs.Floats.{floats-blocks}

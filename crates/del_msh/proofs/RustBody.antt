@@ -2,13 +2,11 @@
 -- under them. Assumes nothing.
 use mathlib.Core.Path.{_≡_, refl}
 use mathlib.Core.List.{List}
-use Prim.Native.Nat.{ℕ, _+_, _-_, _*_}
+use Prim.Native.Nat.{ℕ, _+_, _-_}
 use native.Mathlib.Omega.{arith}
 use lib.Ieee.{Float}
-use lib.ListN.{length}
 use Rattle.vec3.specs.declared.points.Point.{Point}
 use Rattle.kinds.specs.declared.topology.Topology.{Topology}
-use Rattle.kinds.specs.Lists.{tubeTriangles}
 use Rattle.curve.specs.Segments.{verticesIn}
 use Rattle.descriptions.specs.Answers.{accepted}
 use Rattle.descriptions.specs.Descriptions.{topologyOf}
@@ -17,9 +15,8 @@ use Rattle.descriptions.specs.declared.description.Description.{Description}
 use Rattle.descriptions.specs.declared.description.Description.the-variants.{Ribbon, Tube, Capsule, Torus, ClosedCylinder}
 use Rattle.descriptions.proofs.FirstOf.{accepted-by}
 use Rattle.descriptions.proofs.Shapes.{shape-bounds, checked-shape}
-use Rattle.bodies.specs.Polyline3 as paper
 use Rattle.del_msh.specs.Trimesh3Primitive.{cylinder-open-end-number-of-tri-and-vtx}
-use Rattle.del_msh.specs.Adapted.{chunks, floats, tube, rustBody, paperBody, Asked}
+use Rattle.del_msh.specs.Adapted.{rustBody, paperBody, Asked}
 use Rattle.del_msh.proofs.Topology.{open-topology}
 use Rattle.del_msh.proofs.ClosedCylinder.{yup-floats, yup-triangles}
 use Rattle.del_msh.proofs.OpenFrames.{sized}

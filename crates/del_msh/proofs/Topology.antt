@@ -1,8 +1,8 @@
 -- The triangle lists of trimesh3_primitive.rs are document 01's. Assumes nothing.
-use mathlib.Core.Path.{_≡_, refl, sym, ap, _∙_}
+use mathlib.Core.Path.{_≡_, refl, ap, _∙_}
 use mathlib.Core.List.{List, [], _∷_, _++_, append-assoc}
 use Prim.Native.Nat.{ℕ, _+_, _-_, _*_, _/_, _%_, _≤_, _<_}
-use native.Mathlib.Nat.{add-zero, mod-eq-of-lt, mul-div-cancel, mul-le-mul-right}
+use native.Mathlib.Nat.{add-zero, mod-eq-of-lt, mul-div-cancel}
 use native.Mathlib.Omega.{arith}
 use borrow.Author.Tests.{eq-eqb}
 use lib.ListN.{length, length-replicate}
@@ -13,7 +13,7 @@ use Rattle.laws.specs.Blocks.{blocks, length-blocks}
 use Rattle.surface.specs.Triangles.{Triangle, triangle}
 use Rattle.kinds.specs.Lists.{next, ring, layerQuad, layers, bottomTriangles, topTriangles, closedTriangles, tubeQuad, tubeTriangles}
 use Rattle.del_msh.specs.Vectors.{vec}
-use Rattle.del_msh.specs.DelGeoCore.{noTriangle, assign0, assign1, assign2, first, second, third}
+use Rattle.del_msh.specs.Arrays.{zeroTriangle, assign0, assign1, assign2, first, second, third}
 use Rattle.del_msh.specs.Trimesh3Primitive.{cylinder-open-end-set-topology, cylinder-closed-end-topology}
 use Rattle.del_msh.proofs.Loops.{assigned-by-three, fills, pushes}
 
@@ -67,18 +67,18 @@ quad-assigned p q xs {a} {b} {c} {d} {e} {f} h place u v w x y z =
 length-row : (n g : ℕ) → length (blocks n (tubeQuad n g)) ≡ n * 2
 length-row n g = length-blocks 2 n (tubeQuad n g) (λ i h. refl)
 
-pub open-topology : (n m : ℕ) → 1 ≤ m → cylinder-open-end-set-topology (vec noTriangle (m * n * 2)) (m + 1) ≡ tubeTriangles n m
+pub open-topology : (n m : ℕ) → 1 ≤ m → cylinder-open-end-set-topology (vec zeroTriangle (m * n * 2)) (m + 1) ≡ tubeTriangles n m
 unfolding cylinder-open-end-set-topology
 open-topology n m h =
     let side : m + 1 - 1 ≡ m = omega arith in
-    let sized : length (vec noTriangle (m * n * 2)) ≡ m * n * 2 = length-replicate (m * n * 2) noTriangle in
+    let sized : length (vec zeroTriangle (m * n * 2)) ≡ m * n * 2 = length-replicate (m * n * 2) zeroTriangle in
     let same : m * n * 2 ≡ n * (2 * m) = omega arith in
-    let round : length (vec noTriangle (m * n * 2)) / (2 * m) ≡ n = ap (λ (k : ℕ). k / (2 * m)) (sized ∙ same) ∙ mul-div-cancel n (omega arith) in
-    rw (side, round, eq-eqb (length (vec noTriangle (m * n * 2))) (m * n * 2) sized) (
-    fills m 0 (n * 2) (λ g. blocks n (tubeQuad n g)) _ (vec noTriangle (m * n * 2)) (length-row n)
+    let round : length (vec zeroTriangle (m * n * 2)) / (2 * m) ≡ n = ap (λ (k : ℕ). k / (2 * m)) (sized ∙ same) ∙ mul-div-cancel n (omega arith) in
+    rw (side, round, eq-eqb (length (vec zeroTriangle (m * n * 2))) (m * n * 2) sized) (
+    fills m 0 (n * 2) (λ g. blocks n (tubeQuad n g)) _ (vec zeroTriangle (m * n * 2)) (length-row n)
     (λ g hg t long. fills n (0 + g * (n * 2)) 2 (tubeQuad n g) _ t (λ i. refl)
     (λ i hi t′ as-long.
     let row = row-within g m n hg in
     quad-assigned ((g * n + i) * 2) (0 + g * (n * 2) + i * 2) t′ (omega arith) (omega arith)
     refl (omega arith) refl refl (omega arith) (omega arith)))
-    ∙ overwrite-all (tubeTriangles n m) (vec noTriangle (m * n * 2)) (length-blocks (n * 2) m (λ g. blocks n (tubeQuad n g)) (λ g _. length-row n g) ∙ omega arith))
+    ∙ overwrite-all (tubeTriangles n m) (vec zeroTriangle (m * n * 2)) (length-blocks (n * 2) m (λ g. blocks n (tubeQuad n g)) (λ g _. length-row n g) ∙ omega arith))

@@ -1,17 +1,15 @@
 -- The frames and the torus of polyloop3.rs are document 01's. Assumes nothing.
 use mathlib.Core.Path.{_≡_, refl, sym, ap, _∙_}
 use mathlib.Core.List.{List, [], _∷_, _++_}
-use Prim.Native.Nat.{ℕ, _+_, _-_, _*_, _%_, _≤_, _<_}
+use Prim.Native.Nat.{ℕ, _+_, _-_, _%_, _≤_, _<_}
 use native.Mathlib.Nat.{mod-eq-of-lt, mod-lt}
 use native.Mathlib.Omega.{arith}
 use lib.Ieee.{Float}
 use lib.ListN.{length, length-replicate}
 use Rattle.laws.specs.Overlaps.{overwrite-all}
 use Rattle.laws.specs.Blocks.{blocks}
-use Rattle.surface.specs.Triangles.{Triangle, triangle}
 use Rattle.surface.specs.declared.grid.Chain.the-variants.{Closed}
 use Rattle.vec3.specs.Points.{sumOf, differenceOf, scaled, crossOf, normalised}
-use Rattle.vec3.specs.Turns.{turnOf}
 use Rattle.vec3.specs.Frames.{firstFrame, transported}
 use Rattle.vec3.specs.declared.points.Point.{Point}
 use Rattle.vec3.specs.declared.turns.Direction.{Direction}
@@ -22,7 +20,8 @@ use Rattle.rings.specs.Axes.{axesAt}
 use Rattle.rings.specs.Vertices.{torusVertex}
 use Rattle.bodies.specs.Polyloop3 as paper
 use Rattle.del_msh.specs.Vectors.{vec, read, change}
-use Rattle.del_msh.specs.DelGeoCore.{zeros, cos, sin}
+use Rattle.del_msh.specs.Arrays.{zeros}
+use Rattle.del_msh.specs.DelGeoCore.{cos, sin}
 use Rattle.del_msh.specs.Polyloop3 as rust
 use Rattle.del_msh.specs.Adapted.{chunks, floats}
 use Rattle.del_msh.proofs.Loops.{pushes}

@@ -1,7 +1,7 @@
 -- The tube of polyline3.rs is document 01's. Assumes nothing.
 use mathlib.Core.Path.{_≡_, refl, ap, _∙_}
 use mathlib.Core.List.{List}
-use Prim.Native.Nat.{ℕ, _+_, _-_, _*_, _/_, _≤_, _<_}
+use Prim.Native.Nat.{ℕ, _+_, _*_, _/_, _≤_, _<_}
 use native.Mathlib.Nat.{mul-div-cancel}
 use native.Mathlib.Omega.{arith}
 use lib.Ieee.{Float}
@@ -15,7 +15,8 @@ use Rattle.curve.specs.Segments.{verticesIn}
 use Rattle.rings.specs.Vertices.{tubeVertex}
 use Rattle.bodies.specs.Polyline3 as paper
 use Rattle.del_msh.specs.Vectors.{vec, read}
-use Rattle.del_msh.specs.DelGeoCore.{zeros, TAU, mul, div, cos, sin}
+use Rattle.del_msh.specs.Arrays.{zeros}
+use Rattle.del_msh.specs.DelGeoCore.{TAU, mul, div, cos, sin}
 use Rattle.del_msh.specs.Polyline3 as rust
 use Rattle.del_msh.specs.Adapted.{chunks, floats}
 use Rattle.del_msh.proofs.Loops.{assigned}

@@ -13,7 +13,7 @@ use Rattle.descriptions.specs.declared.description.Description.{Description}
 use Rattle.descriptions.specs.declared.description.Description.the-variants.{Ribbon, Tube, Capsule, Torus, ClosedCylinder}
 use Rattle.bodies.specs.Bodies.{verticesOf}
 use Rattle.del_msh.specs.Vectors.{vec}
-use Rattle.del_msh.specs.DelGeoCore.{xyz, zeros, noTriangle}
+use Rattle.del_msh.specs.Arrays.{xyz, zeros, zeroTriangle}
 use Rattle.del_msh.specs.Trimesh3Primitive.{TriMesh, cylinder-open-end-number-of-tri-and-vtx, cylinder-open-end-set-topology, cylinder-closed-end-yup}
 use Rattle.del_msh.specs.Polyline3 as polyline3
 use Rattle.del_msh.specs.Polyloop3 as polyloop3
@@ -35,7 +35,7 @@ module _ (outside : Point) where
   abbrev pub tube : List Point → ℕ → Float → TriMesh
   tube curve divisions radius =
       let counts = cylinder-open-end-number-of-tri-and-vtx divisions (length curve - 1) in
-      let tri2vtx = vec noTriangle (counts .0) in
+      let tri2vtx = vec zeroTriangle (counts .0) in
       let vtx2xyz = vec zeros (counts .1) in
       let tri2vtx = cylinder-open-end-set-topology tri2vtx (length curve) in
       let vtx2xyz = polyline3.set-vtx2xyz-for-generalized-cylinder-open-end outside vtx2xyz curve radius in
@@ -48,16 +48,16 @@ module _ (outside : Point) where
   body (Torus divisions radius) c = polyloop3.to-trimesh3-torus outside (chunks c) (polyloop3.vtx2framex outside (chunks c)) radius divisions
   body (ClosedCylinder divisions layers centred radius length) c = cylinder-closed-end-yup radius length divisions layers centred
 
-  -- the body's triangles, and the floats of its vertices
+  -- triangles, and the floats of its vertices
   abbrev pub rustBody : Description → List Float → List Triangle × List Float
   rustBody d c = (body d c .0, floats (body d c .1))
 
--- document 01's: "the vertices and local triangles that this paper's definitions give its description and curve" ('The shared set')
+-- The same of document 01: "the vertices and local triangles that this paper's definitions give its description and curve" ('The shared set')
 abbrev pub paperBody : Description → List Float → List Triangle × List Float
 paperBody d c = (trianglesOf (topologyOf d (verticesIn c)), verticesOf d c)
 
--- What the Rust asks of its caller: what it asserts (`ndiv_circum > 2`, `ndiv_length >= 1`, of a capsule 2L + m − 2), and the two vertices of the
--- first segment, which it reads untested. A tube's slices have a length to divide.
+-- What the Rust asks of its caller, of a curve of N vertices: the first segment, which it reads untested, `ndiv_circum > 2`, and
+-- `ndiv_length >= 1`, which of a capsule's 2L + m − 2 layers says 3 ≤ 2L + m.
 abbrev pub Asked : Description → ℕ → Type 0
 Asked (Ribbon width) N = 2 ≤ N
 Asked (Tube n r) N = 2 ≤ N

@@ -1,62 +1,15 @@
 -- Document 01's stand-ins for what the source takes from `del_geo_core` and the float library ('Kept from the Rust, and written anew':
 -- "one for an angle with its sine and cosine, one for a rotation with its application"; 'Arithmetic' has the first frame), in the order of
--- tests/src/del_msh/del_geo_core.rs, and the arrays `[f32; 3]` and `[usize; 3]`. Definitions only.
-use mathlib.Core.List.{List, [], _∷_}
+-- tests/src/del_msh/del_geo_core.rs. Definitions only.
 use Prim.Native.Nat.{ℕ, _*_}
-use lib.Ieee.{Float, binary32, ofBits}
-use Rattle.surface.specs.Triangles.{Triangle, triangle}
+use lib.Ieee.{Float}
 use Rattle.vec3.specs.Points.{sumOf, differenceOf, scaled, crossOf, normalised}
 use Rattle.vec3.specs.Turns.{turnOf}
 use Rattle.vec3.specs.Frames.{firstFrame, transported}
 use Rattle.vec3.specs.declared.points.Point.{Point}
-use Rattle.del_msh.specs.Vectors.{change}
 
--- `[x, y, z]` of floats; of whole numbers it is `triangle a b c`
-abbrev pub xyz : Float → Float → Float → Point
-xyz x y z = record { x = x; y = y; z = z }
-
--- `0f32`, `1f32`, `[0f32; 3]` and `[0usize; 3]`. 3F800000 is 1.
-abbrev pub zero : Float
-zero = ofBits binary32 0
-
-abbrev pub one : Float
-one = ofBits binary32 0x3F80_0000
-
-abbrev pub zeros : Point
-zeros = xyz zero zero zero
-
-abbrev pub noTriangle : Triangle
-noTriangle = triangle 0 0 0
-
--- `xs[i][0] = v`, `xs[i][1] = v`, `xs[i][2] = v`: of points, and of triangles
-abbrev pub assignX : List Point → ℕ → Float → List Point
-assignX xs i v = change xs i (λ p. xyz v (p .y) (p .z))
-
-abbrev pub assignY : List Point → ℕ → Float → List Point
-assignY xs i v = change xs i (λ p. xyz (p .x) v (p .z))
-
-abbrev pub assignZ : List Point → ℕ → Float → List Point
-assignZ xs i v = change xs i (λ p. xyz (p .x) (p .y) v)
-
-abbrev pub first : ℕ → Triangle → Triangle
-first v (triangle a b c) = triangle v b c
-
-abbrev pub second : ℕ → Triangle → Triangle
-second v (triangle a b c) = triangle a v c
-
-abbrev pub third : ℕ → Triangle → Triangle
-third v (triangle a b c) = triangle a b v
-
-abbrev pub assign0 : List Triangle → ℕ → ℕ → List Triangle
-assign0 xs i v = change xs i (first v)
-
-abbrev pub assign1 : List Triangle → ℕ → ℕ → List Triangle
-assign1 xs i v = change xs i (second v)
-
-abbrev pub assign2 : List Triangle → ℕ → ℕ → List Triangle
-assign2 xs i v = change xs i (third v)
-
--- An angle is k/n turn; `TAU` is a whole turn, `FRAC_PI_2` a quarter, and products and quotients with whole numbers stay exact.
+-- An angle is k/n turn: `two * pi` of the source is `TAU`, a whole turn, and `pi * half` is `FRAC_PI_2`, a quarter. Products and quotients with
+-- whole numbers stay exact, so that cosine and sine are those of turn(k, n) for the very k and n that the source's expression is made of.
 pub record Angle : Type 0 where
   pub k : ℕ
   pub n : ℕ
@@ -79,7 +32,7 @@ cos angle = turnOf (angle .k) (angle .n) .cos
 unfoldable pub sin : Angle → Float
 sin angle = turnOf (angle .k) (angle .n) .sin
 
--- vec3: operations on three floats
+-- vec3: operations on three floats, under the names of the source
 abbrev pub add : Point → Point → Point
 add = sumOf
 

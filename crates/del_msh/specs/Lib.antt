@@ -1,4 +1,5 @@
 pub mod Vectors
+pub mod Arrays
 pub mod DelGeoCore
 pub mod Trimesh3Primitive
 pub mod Polyline3

@@ -1,4 +1,5 @@
--- The frames along an open curve, tube, capsule and ribbon, after polyline3.rs of del-msh (see NOTICE).
+-- The frames along an open curve, tube, capsule and ribbon, after polyline3.rs of del-msh (see NOTICE): its functions, names, loops and order,
+-- with - for _ in a name. Line numbers are the source's; tests/src/del_msh/polyline3.rs has the same text to be run. Definitions only.
 use mathlib.Core.Bool.{true}
 use mathlib.Core.List.{List}
 use Prim.Native.Nat.{ℕ, _+_, _-_, _*_, _/_}
@@ -9,16 +10,18 @@ use Rattle.surface.specs.Triangles.{triangle}
 use Rattle.vec3.specs.Points.{times}
 use Rattle.vec3.specs.declared.points.Point.{Point}
 use Rattle.del_msh.specs.Vectors.{vec, read, assert, assign, if, for, _‥_}
-use Rattle.del_msh.specs.DelGeoCore.{one, zeros, noTriangle, assignX, assignY, assignZ, TAU, FRAC-PI-2, mul, div, cos, sin}
+use Rattle.del_msh.specs.Arrays.{one, zeros, zeroTriangle, assignX, assignY, assignZ}
+use Rattle.del_msh.specs.DelGeoCore.{TAU, FRAC-PI-2, mul, div, cos, sin}
 use Rattle.del_msh.specs.DelGeoCore.{add, sub, scale, cross, normalize, basis-xy-from-basis-z, minimum-rotation-matrix, mult-vec}
 use Rattle.del_msh.specs.Trimesh3Primitive.{TriMesh, cylinder-closed-end-yup}
 
+-- what a read past a list's end would give
 module _ (outside : Point) where
   infixl 90 _at_
   abbrev _at_ : List Point → ℕ → Point
   _at_ = read outside
 
-  -- bi-normal vector on each vertex
+  -- line 27, "bi-normal vector on each vertex"
   unfoldable pub vtx2framex : List Point → List Point
   vtx2framex vtx2xyz =
       let num-vtx = length vtx2xyz in
@@ -47,6 +50,7 @@ module _ (outside : Point) where
       ) vtx2bin in
       assign vtx2bin (num-vtx - 1) (vtx2bin at (num-vtx - 2))
 
+  -- line 74
   unfoldable pub framez : List Point → ℕ → Point
   framez vtx2xyz i-vtx =
       let num-vtx = length vtx2xyz in
@@ -70,6 +74,7 @@ module _ (outside : Point) where
         ),
       )
 
+  -- line 99
   unfoldable pub vtx2framey : List Point → List Point → List Point
   vtx2framey vtx2xyz vtx2framex =
       let num-vtx = length vtx2xyz in
@@ -83,6 +88,7 @@ module _ (outside : Point) where
             assign vtx2framey i-vtx (cross framez framex),
       ) vtx2framey
 
+  -- line 143
   unfoldable pub set-vtx2xyz-for-generalized-cylinder-open-end : List Point → List Point → Float → List Point
   set-vtx2xyz-for-generalized-cylinder-open-end vtx2xyz vtxl2xyz rad =
       let num-vtxl = length vtxl2xyz in
@@ -107,6 +113,7 @@ module _ (outside : Point) where
             ) vtx2xyz,
       ) vtx2xyz
 
+  -- line 175
   unfoldable pub to-trimesh3-capsule : List Point → ℕ → ℕ → Float → TriMesh
   to-trimesh3-capsule vtxl2xyz ndiv-circum ndiv-longtitude r =
       let vtxl2xyz = assert (ltb 2 ndiv-circum) vtxl2xyz in
@@ -197,6 +204,7 @@ module _ (outside : Point) where
       let vtx2xyz = assignZ vtx2xyz (np - 1) (q .z) in
       (tri2vtx, vtx2xyz)
 
+  -- line 332
   unfoldable pub to-trimesh3-ribbon : List Point → List Point → Float → TriMesh
   to-trimesh3-ribbon vtxl2xyz vtxl2framex width =
       let num-vtxl = length vtxl2xyz in
@@ -208,7 +216,7 @@ module _ (outside : Point) where
             assign vtx2xyz (i-vtxl * 2 + 1) (add (vtxl2xyz at i-vtxl) (scale (vtxl2framex at i-vtxl) width)),
       ) vtx2xyz in
       let num-tri = (num-vtxl - 1) * 2 in
-      let tri2vtx = vec noTriangle num-tri in
+      let tri2vtx = vec zeroTriangle num-tri in
       let tri2vtx = for (
         0 ‥ num-vtxl - 1,
         λ i-vtxl tri2vtx.

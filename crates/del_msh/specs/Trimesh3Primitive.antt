@@ -1,5 +1,6 @@
--- The open cylinder's triangles and the closed cylinder, after trimesh3_primitive.rs of del-msh (see NOTICE): functions, names and order are the
--- source's, as tests/src/del_msh/trimesh3_primitive.rs has them. Definitions only.
+-- The open cylinder's triangles and the closed cylinder, after trimesh3_primitive.rs of del-msh (see NOTICE): its functions, names, loops and
+-- order, with - for _ in a name. Line numbers are the source's; tests/src/del_msh/trimesh3_primitive.rs has the same text to be run.
+-- Definitions only.
 use mathlib.Core.Bool.{Bool}
 use mathlib.Core.List.{List, []}
 use Prim.Native.Nat.{ℕ, _+_, _-_, _*_, _/_, _%_}
@@ -11,18 +12,21 @@ use Rattle.vec3.specs.Points.{plus, times, over}
 use Rattle.vec3.specs.Turns.{whole}
 use Rattle.vec3.specs.declared.points.Point.{Point}
 use Rattle.del_msh.specs.Vectors.{vec, push, assert, assign, if, for, _‥_}
-use Rattle.del_msh.specs.DelGeoCore.{xyz, zero, one, zeros, assign0, assign1, assign2, TAU, mul, div, cos, sin}
+use Rattle.del_msh.specs.Arrays.{xyz, zero, one, zeros, assign0, assign1, assign2}
+use Rattle.del_msh.specs.DelGeoCore.{TAU, mul, div, cos, sin}
 
 -- `(Vec<[usize; 3]>, Vec<[f32; 3]>)`: triangles and vertices
 abbrev pub TriMesh : Type 0
 TriMesh = List Triangle × List Point
 
+-- line 7
 unfoldable pub cylinder-open-end-number-of-tri-and-vtx : ℕ → ℕ → ℕ × ℕ
 cylinder-open-end-number-of-tri-and-vtx ndiv-circumference ndiv-side =
     let num-vtx = ndiv-circumference * (ndiv-side + 1) in
     let num-tri = ndiv-side * ndiv-circumference * 2 in
     (num-tri, num-vtx)
 
+-- line 16
 unfoldable pub cylinder-open-end-set-topology : List Triangle → ℕ → List Triangle
 cylinder-open-end-set-topology tri2vtx num-vtxc =
     let ndiv-side = num-vtxc - 1 in
@@ -48,6 +52,7 @@ cylinder-open-end-set-topology tri2vtx num-vtxc =
           ) tri2vtx,
     ) tri2vtx
 
+-- line 119; its `with_capacity` says nothing of the list
 unfoldable pub cylinder-closed-end-topology : ℕ → ℕ → List Triangle
 cylinder-closed-end-topology ndiv-side ndiv-circumference =
     let ndiv-longtitude = ndiv-side + 2 in
@@ -80,6 +85,7 @@ cylinder-closed-end-topology ndiv-side ndiv-circumference =
           push tri2vtx (triangle i0 i1 i2),
     ) tri2vtx
 
+-- line 160
 unfoldable pub cylinder-closed-end-yup : Float → Float → ℕ → ℕ → Bool → TriMesh
 cylinder-closed-end-yup radius length ndiv-circumference ndiv-length is-center =
     let num-vtx = ndiv-circumference * (ndiv-length + 1) + 2 in

@@ -1,5 +1,5 @@
--- What Rust itself means by the lines that build a list: a vector made, read, assigned and pushed onto, and a `for` loop. A vector or a slice
--- is the list of its elements, a `usize` a natural number. Definitions only.
+-- What Rust itself means by the lines that build a list: a vector made, read, assigned and pushed onto, `assert!`, `if` and `for`. A vector or a
+-- slice is the list of its elements, a `usize` a natural number. Definitions only.
 use mathlib.Core.Bool.{Bool, cond}
 use mathlib.Core.List.{List, [], _∷_, _++_}
 use Prim.Native.Nat.{ℕ, zero, suc}
@@ -15,7 +15,7 @@ module _ {ℓ} {A : Type ℓ} where
   abbrev pub push : List A → A → List A
   push xs x = xs ++ (x ∷ [])
 
-  -- `xs[i]`, read. Past the end the Rust panics; here it is `outside`, of which the theorem asks nothing.
+  -- `xs[i]`, read. Past the end, where the Rust panics, it is `outside`, of which nothing is known.
   abbrev pub read : A → List A → ℕ → A
   read outside xs i = getD xs i outside
 
@@ -29,7 +29,7 @@ module _ {ℓ} {A : Type ℓ} where
   changed (x ∷ xs) zero f = f x ∷ xs
   changed (x ∷ xs) (suc i) f = x ∷ changed xs i f
 
-  -- The same where there is an element i. Where there is none the Rust panics: nothing is left, and nothing can be assigned to it.
+  -- The same; where there is no element i the Rust panics, and nothing is left.
   unfoldable pub change : List A → ℕ → (A → A) → List A
   change xs i f = cond (ltb i (length xs)) (changed xs i f) []
 
@@ -51,7 +51,7 @@ abbrev pub _‥_ : ℕ → ℕ → Range
 a ‥ b = record { start = a; end = b }
 
 module _ {ℓ} {S : Type ℓ} where
-  -- the turns a up to b − 1, one after the other: those up to b − 2, and then turn b − 1; none where a is not below b
+  -- the turns from a up to b − 1, one after the other: those before the last, and then the last; none where a is not below b
   abbrev pub turns : ℕ → ℕ → (ℕ → S → S) → S → S
   turns a zero turn state = state
   turns a (suc b) turn state = cond (leb a b) (turn b (turns a b turn state)) state
