@@ -69,15 +69,15 @@ module _ (outside : Point) (c : List Float) (m : ℕ) (is : verticesIn c ≡ m +
   unfolding paper.vtx2framex
   ex-last = sym (ap (λ (b : Bool). cond b (frameOf Open m c (m - 1)) (frameOf Open m c m) .ex) (eq-eqb m m refl))
 
-  -- `vtx2bin[num_vtx - 1] = vtx2bin[num_vtx - 2]`
-  last-copied : (t : List Point) → t ≡ overwrite 0 (pointsOf m (frame outside Open m c)) (vec zeros (m + 1))
-      → change t m (λ old. read outside t (m - 1)) ≡ pointsOf (m + 1) ex
-  last-copied t is =
+  -- `vtx2bin[num_vtx - 1] = vtx2bin[num_vtx - 2]`, the second place under another name
+  last-copied : (q : ℕ) → q ≡ m - 1 → (t : List Point) → t ≡ overwrite 0 (pointsOf m (frame outside Open m c)) (vec zeros (m + 1))
+      → change t m (λ old. read outside t q) ≡ pointsOf (m + 1) ex
+  last-copied q same t is =
       let room = m + 1 in
       let t₀ = vec zeros room in
       let long : length t₀ ≡ room = length-replicate room zeros in
       behind room m (pointsOf m ex) (ex m ∷ []) t₀ long
-      (assigned room m m t (omega arith) refl (written-at outside m (frame outside Open m c) t₀ (m - 1) (omega arith) (omega arith) is ∙ ex-last))
+      (assigned room m m t (omega arith) refl (ap (read outside t) same ∙ written-at outside m (frame outside Open m c) t₀ (m - 1) (omega arith) (omega arith) is ∙ ex-last))
       (is ∙ ap (λ (l : List Point). overwrite 0 l t₀) (blocks-cong m (λ g. frame outside Open m c g ∷ []) (λ g. ex g ∷ []) (λ g l. ap (λ (p : Point). p ∷ []) (ex-within g l))))
       (length-points m ex)
       ∙ ap (λ (k : ℕ). overwrite 0 (pointsOf k ex) t₀) (sym (add-one m))
@@ -87,8 +87,7 @@ module _ (outside : Point) (c : List Float) (m : ℕ) (is : verticesIn c ≡ m +
   unfolding rust.vtx2framex frameOf segmentDirection segmentOf
   framex-is =
       let one : m + 1 - 1 ≡ m = omega arith in
-      let two : m + 1 - 2 ≡ m - 1 = omega arith in
-      rw (sized, one, two) (last-copied _
+      rw (sized, one) (last-copied (m + 1 - 2) (omega arith) _
       (frames-carried outside Open m c (m + 1) m _ _ h (omega arith)
       (λ j. firstFrame (differenceOf (vertex 1 1 (omega arith) refl j) (vertex 0 0 (omega arith) refl j)) .ex)
       (λ i l u t j. change t i (λ old. transported (record { ex = read outside t (i - 1) })

@@ -36,7 +36,7 @@ closed-topology S n =
     let two-less : S + 2 - 2 ≡ S = omega arith in
     rw (one-less, two-less) (
     pushes n (λ i. triangle (n * (S + 1) + 1) (ring n S (next n i)) (ring n S i) ∷ []) _ _
-    (λ i h t. let e = at-itself i n h in triangle-pushed t refl (omega arith) (omega arith))
+    (λ i h t. let e = at-itself i n h in triangle-pushed t (omega arith) (omega arith) (omega arith))
     ∙ ap (λ (t : List Triangle). t ++ topTriangles n S)
     (pushes S (λ g. blocks n (λ i. layerQuad n g i)) _ _
     (λ g hg t. pushes n (layerQuad n g) _ t (λ i h t.
@@ -44,7 +44,7 @@ closed-topology S n =
     quad-pushed t (omega arith) (omega arith) (omega arith) (omega arith) (omega arith) (omega arith)))
     ∙ ap (λ (t : List Triangle). t ++ layers n S)
     (pushes n (λ i. triangle 0 (ring n 0 i) (ring n 0 (next n i)) ∷ []) _ []
-    (λ i h t. triangle-pushed t refl (omega arith) (omega arith))))
+    (λ i h t. triangle-pushed t (omega arith) (omega arith) (omega arith))))
     ∙ append-assoc (bottomTriangles n) (layers n S) (topTriangles n S))
 
 -- a triangle assigned index by index, and the two of a quad
