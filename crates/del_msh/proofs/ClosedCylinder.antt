@@ -35,7 +35,7 @@ unfolding lowOf
 low-is centred length = ap (λ (half : Float). cond centred (times (neg length) half) zero) half-is
 
 -- a pole, rings, a pole
-pub closed-floats : (bottom : Point) (rings : List Point) (top : Point)
+closed-floats : (bottom : Point) (rings : List Point) (top : Point)
     → floats (((bottom ∷ []) ++ rings) ++ (top ∷ [])) ≡ coordinates bottom ++ (floats rings ++ coordinates top)
 closed-floats bottom rings top = ap (λ (l : List Float). coordinates bottom ++ l) (floats-append rings (top ∷ []))
 

@@ -1,5 +1,5 @@
--- The bodies of the Rust are document 01's, for every description and curve: demand 2's "those of the named Rust functions", with the stand-ins
--- under them. Assumes nothing.
+-- The bodies that the Rust functions kept by document 01 make, with its stand-ins under them, are document 01's: for every description and curve
+-- of which the Rust's own asserts hold. Assumes nothing.
 use mathlib.Core.Path.{_≡_, refl}
 use mathlib.Core.List.{List}
 use Prim.Native.Nat.{ℕ, _+_, _-_}
@@ -25,6 +25,7 @@ use Rattle.del_msh.proofs.Tube.{tube-floats}
 use Rattle.del_msh.proofs.Capsule.{capsule-floats, capsule-triangles}
 use Rattle.del_msh.proofs.Torus.{torus-floats, torus-triangles}
 
+-- No assignment lies outside its list and no assert fails, since nothing would be left then; no value hangs on a read outside, whatever it gives.
 pub rust-body : (outside : Point) (d : Description) (c : List Float) → Asked d (verticesIn c) → rustBody outside d c ≡ paperBody d c
 unfolding cylinder-open-end-number-of-tri-and-vtx
 rust-body outside (Ribbon width) c two =
@@ -53,7 +54,7 @@ permitted-asked (Capsule n L r) N h = let b = shape-bounds (Capsule n L r) N h i
 permitted-asked (Torus n r) N h = let b = shape-bounds (Torus n r) N h in omega (arith, b .1 .0)
 permitted-asked (ClosedCylinder n S centred r l) N h = let b = shape-bounds (ClosedCylinder n S centred r l) N h in (b .0 .0, b .1 .0)
 
--- so it holds of all that `check` accepts, and add with it
+-- So it holds of all that `check` accepts, and with it of all that add does.
 pub rust-body-accepted : (outside : Point) (d : Description) (c : List Float) {body : Topology} → accepted body ≡ checkedOf d c
     → rustBody outside d c ≡ paperBody d c
 rust-body-accepted outside d c answer =

@@ -1,5 +1,6 @@
 -- What Rust itself means by the lines that build a list: a vector made, read, assigned and pushed onto, `assert!`, `if` and `for`. A vector or a
--- slice is the list of its elements, a `usize` a natural number. Definitions only.
+-- slice is the list of its elements, a `usize` a natural number: no difference of the source goes below 0 where `Asked` (Adapted.antt) holds.
+-- Definitions only.
 use mathlib.Core.Bool.{Bool, cond}
 use mathlib.Core.List.{List, [], _∷_, _++_}
 use Prim.Native.Nat.{ℕ, zero, suc}
