@@ -2,7 +2,7 @@
 use mathlib.Core.Path.{_≡_, refl, ap, _∙_}
 use mathlib.Core.Bool.{Bool, cond}
 use mathlib.Core.List.{List, [], _∷_, _++_}
-use Prim.Native.Nat.{ℕ, _+_, _-_, _*_, _≤_, _<_}
+use Prim.Native.Nat.{ℕ, _+_, _*_, _≤_, _<_}
 use native.Mathlib.Omega.{arith}
 use borrow.Author.Tests.{lt-ltb, le-leb}
 use lib.Ieee.{Float, binary32, ofBits, add, div, neg}
@@ -16,12 +16,13 @@ use Rattle.rings.specs.Vertices.{coordinates, levelVertex, pole}
 use Rattle.kinds.specs.Lists.{closedTriangles}
 use Rattle.bodies.specs.ClosedCylinder.{lowOf, cylinderVertices}
 use Rattle.del_msh.specs.Vectors.{vec}
-use Rattle.del_msh.specs.Arrays.{xyz, zero, one, zeros}
+use Rattle.del_msh.specs.Arrays.{Outside, minus, xyz, zero, one, zeros}
 use Rattle.del_msh.specs.DelGeoCore.{cos, sin}
 use Rattle.del_msh.specs.Trimesh3Primitive.{cylinder-closed-end-yup}
 use Rattle.del_msh.specs.Adapted.{floats}
 use Rattle.del_msh.proofs.Loops.{assigned}
 use Rattle.del_msh.proofs.Floats.{floats-append}
+use Rattle.del_msh.proofs.Differences.{minus-is}
 use Rattle.del_msh.proofs.Topology.{closed-topology}
 use Rattle.del_msh.proofs.Rings.{whole-turn, ringsPoints, length-rings, rings-floats, rings-assigned, behind}
 
@@ -40,7 +41,7 @@ closed-floats : (bottom : Point) (rings : List Point) (top : Point)
 closed-floats bottom rings top = ap (λ (l : List Float). coordinates bottom ++ l) (floats-append rings (top ∷ []))
 
 -- the sizes that it asserts
-module _ (r l : Float) (n S : ℕ) (centred : Bool) (three : 2 < n) (some : 1 ≤ S) where
+module _ (outside : Outside) (r l : Float) (n S : ℕ) (centred : Bool) (three : 2 < n) (some : 1 ≤ S) where
   abbrev bottom : Point
   bottom = pole (lowOf centred l)
 
@@ -53,7 +54,7 @@ module _ (r l : Float) (n S : ℕ) (centred : Bool) (three : 2 < n) (some : 1 �
   abbrev top : Point
   top = pole (plus (lowOf centred l) l)
 
-  yup-vertices : cylinder-closed-end-yup r l n S centred .1 ≡ ((bottom ∷ []) ++ rings) ++ (top ∷ [])
+  yup-vertices : cylinder-closed-end-yup outside r l n S centred .1 ≡ ((bottom ∷ []) ++ rings) ++ (top ∷ [])
   unfolding cylinder-closed-end-yup levelVertex cos sin
   yup-vertices =
       let room = n * (S + 1) + 2 in
@@ -63,7 +64,7 @@ module _ (r l : Float) (n S : ℕ) (centred : Bool) (three : 2 < n) (some : 1 �
       let e = length-rings (S + 1) vertex n in
       rw (lt-ltb 2 n three, le-leb 1 S some) (
       behind room (n * (S + 1) + 1) ((bottom ∷ []) ++ rings) (top ∷ []) t₀ sized
-      (assigned room (room - 1) (n * (S + 1) + 1) _ (omega arith) (omega arith) (ap (λ (y : Float). pole (plus y l)) low))
+      (assigned room (minus outside room 1) (n * (S + 1) + 1) _ (omega arith) (minus-is outside room 1 (n * (S + 1) + 1) (omega arith)) (ap (λ (y : Float). pole (plus y l)) low))
       (behind room 1 (bottom ∷ []) rings t₀ sized
       (rings-assigned room (S + 1) n 1 vertex _ _ (omega arith) (λ g i hg hi h t.
       assigned room (g * n + i + 1) (1 + g * n + i) t h (omega arith)
@@ -73,15 +74,15 @@ module _ (r l : Float) (n S : ℕ) (centred : Bool) (three : 2 < n) (some : 1 �
       (omega arith)
       ∙ overwrite-all (((bottom ∷ []) ++ rings) ++ (top ∷ [])) t₀ (omega (arith, length-append rings (top ∷ []))))
 
-  pub yup-length : length (cylinder-closed-end-yup r l n S centred .1) ≡ n * (S + 1) + 2
+  pub yup-length : length (cylinder-closed-end-yup outside r l n S centred .1) ≡ n * (S + 1) + 2
   yup-length = ap length yup-vertices ∙ omega (arith, length-append rings (top ∷ []), length-rings (S + 1) vertex n)
 
-  pub yup-floats : floats (cylinder-closed-end-yup r l n S centred .1) ≡ cylinderVertices r l n S centred
+  pub yup-floats : floats (cylinder-closed-end-yup outside r l n S centred .1) ≡ cylinderVertices r l n S centred
   yup-floats =
       ap floats yup-vertices
       ∙ closed-floats bottom rings top
       ∙ ap (λ (l : List Float). coordinates bottom ++ (l ++ coordinates top)) (rings-floats (S + 1) vertex n)
 
-  pub yup-triangles : cylinder-closed-end-yup r l n S centred .0 ≡ closedTriangles n S
+  pub yup-triangles : cylinder-closed-end-yup outside r l n S centred .0 ≡ closedTriangles n S
   unfolding cylinder-closed-end-yup
-  yup-triangles = closed-topology S n
+  yup-triangles = closed-topology outside S n

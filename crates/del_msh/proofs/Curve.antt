@@ -7,10 +7,8 @@ use native.Mathlib.Omega.{arith}
 use borrow.Author.Tests.{lt-ltb}
 use lib.Ieee.{Float, nan}
 use lib.ListN.{length, getD}
-use Rattle.vec3.specs.declared.points.Point.{Point}
 use Rattle.curve.specs.Segments.{verticesIn, vertexOf}
-use Rattle.del_msh.specs.Vectors.{read}
-use Rattle.del_msh.specs.Arrays.{xyz}
+use Rattle.del_msh.specs.Arrays.{Outside, read, xyz}
 use Rattle.del_msh.specs.Adapted.{chunks}
 
 pub length-chunks : (c : List Float) → length (chunks c) ≡ verticesIn c
@@ -19,7 +17,7 @@ length-chunks (x ∷ []) = refl
 length-chunks (x ∷ y ∷ []) = refl
 length-chunks (x ∷ y ∷ z ∷ rest) = omega (arith, length-chunks rest)
 
-chunk : (outside : Point) (c : List Float) (k : ℕ) → k < length (chunks c)
+chunk : (outside : Outside) (c : List Float) (k : ℕ) → k < length (chunks c)
     → read outside (chunks c) k ≡ xyz (getD c (3 * k) nan) (getD c (3 * k + 1) nan) (getD c (3 * k + 2) nan)
 chunk outside [] k h = absurd (not-suc-le-zero h)
 chunk outside (x ∷ []) k h = absurd (not-suc-le-zero h)
@@ -34,7 +32,7 @@ chunk outside (x ∷ y ∷ z ∷ rest) (suc k) h =
     ∙ (λ j. xyz (getD c (three j) nan) (getD c (four j) nan) (getD c (five j) nan))
 
 -- `vtx2xyz[k]`, under another name of k
-pub vertex-at : (outside : Point) (c : List Float) (k k′ : ℕ) → k′ < verticesIn c → k ≡ k′ → read outside (chunks c) k ≡ vertexOf c k′
+pub vertex-at : (outside : Outside) (c : List Float) (k k′ : ℕ) → k′ < verticesIn c → k ≡ k′ → read outside (chunks c) k ≡ vertexOf c k′
 unfolding vertexOf
 vertex-at outside c k k′ h same =
     let within : k < length (chunks c) = omega (arith, length-chunks c) in

@@ -13,8 +13,8 @@ use Rattle.vec3.specs.Frames.{transported}
 use Rattle.vec3.specs.declared.points.Point.{Point}
 use Rattle.curve.specs.Segments.{segmentDirection}
 use Rattle.curve.specs.Framex.{frameOf}
-use Rattle.del_msh.specs.Vectors.{vec, read, change, turns}
-use Rattle.del_msh.specs.Arrays.{zeros}
+use Rattle.del_msh.specs.Vectors.{vec, change, turns}
+use Rattle.del_msh.specs.Arrays.{Outside, read, zeros}
 use Rattle.del_msh.proofs.Loops.{assigned, writes}
 
 -- a point for each vertex
@@ -24,18 +24,18 @@ pointsOf n f = blocks n (λ g. f g ∷ [])
 pub length-points : (n : ℕ) (f : ℕ → Point) → length (pointsOf n f) ≡ n
 length-points n f = length-blocks 1 n (λ g. f g ∷ []) (λ g _. refl) ∙ omega arith
 
-pub point-at : (outside : Point) (n : ℕ) (f : ℕ → Point) (g : ℕ) → g < n → read outside (pointsOf n f) g ≡ f g
-point-at outside n f g h = getD-blocks 1 n (λ k. f k ∷ []) g 0 g outside (λ k. refl) h (omega arith) (omega arith)
+pub point-at : (outside : Outside) (n : ℕ) (f : ℕ → Point) (g : ℕ) → g < n → read outside (pointsOf n f) g ≡ f g
+point-at outside n f g h = getD-blocks 1 n (λ k. f k ∷ []) g 0 g (outside .point) (λ k. refl) h (omega arith) (omega arith)
 
 -- the same where they begin a longer list
-pub written-at : (outside : Point) (n : ℕ) (f : ℕ → Point) (t₀ : List Point) {t : List Point} (g : ℕ) → g < n → n ≤ length t₀
+pub written-at : (outside : Outside) (n : ℕ) (f : ℕ → Point) (t₀ : List Point) {t : List Point} (g : ℕ) → g < n → n ≤ length t₀
     → t ≡ overwrite 0 (pointsOf n f) t₀ → read outside t g ≡ f g
 written-at outside n f t₀ g h room is =
     (λ j. read outside (is j) (sym (zero-add g) j))
-    ∙ getD-within 0 (pointsOf n f) t₀ g outside (omega (arith, length-points n f)) (omega arith)
+    ∙ getD-within 0 (pointsOf n f) t₀ g (outside .point) (omega (arith, length-points n f)) (omega arith)
     ∙ point-at outside n f g h
 
-module _ (outside : Point) (chain : Chain) (count : ℕ) (c : List Float) where
+module _ (outside : Outside) (chain : Chain) (count : ℕ) (c : List Float) where
   abbrev pub frame : ℕ → Point
   frame g = frameOf chain count c g .ex
 

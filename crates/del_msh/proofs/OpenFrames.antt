@@ -20,22 +20,30 @@ use Rattle.vec3.specs.declared.points.Point.{Point}
 use Rattle.curve.specs.Segments.{verticesIn, vertexOf, segmentOf, segmentDirection}
 use Rattle.curve.specs.Framex.{frameOf}
 use Rattle.bodies.specs.Polyline3 as paper
-use Rattle.del_msh.specs.Vectors.{vec, read, change}
-use Rattle.del_msh.specs.Arrays.{zeros}
+use Rattle.del_msh.specs.Vectors.{vec, change}
+use Rattle.del_msh.specs.Arrays.{minus, Outside, read, zeros}
 use Rattle.del_msh.specs.Polyline3 as rust
 use Rattle.del_msh.specs.Adapted.{chunks}
+use Rattle.del_msh.proofs.Differences.{minus-is}
 use Rattle.del_msh.proofs.Loops.{assigned, fills}
 use Rattle.del_msh.proofs.Rings.{behind}
 use Rattle.del_msh.proofs.Curve.{length-chunks, vertex-at}
 use Rattle.del_msh.proofs.Frames.{pointsOf, length-points, point-at, written-at, frame, frames-carried}
 
 -- a curve of m segments, at least one
-module _ (outside : Point) (c : List Float) (m : ℕ) (is : verticesIn c ≡ m + 1) (h : 1 ≤ m) where
+module _ (outside : Outside) (c : List Float) (m : ℕ) (is : verticesIn c ≡ m + 1) (h : 1 ≤ m) where
   abbrev pub curve : List Point
   curve = chunks c
 
   pub sized : length curve ≡ m + 1
   sized = length-chunks c ∙ is
+
+  -- `num_vtx - 1` and `num_vtx - 2`
+  pub one-less : minus outside (length curve) 1 ≡ m
+  one-less = minus-is outside (length curve) 1 m (omega (arith, sized))
+
+  two-less : minus outside (length curve) 2 ≡ m - 1
+  two-less = minus-is outside (length curve) 2 (m - 1) (omega (arith, sized))
 
   pub vertex : (k k′ : ℕ) → k′ < m + 1 → k ≡ k′ → read outside curve k ≡ vertexOf c k′
   vertex k k′ l same = vertex-at outside c k k′ (omega arith) same
@@ -47,13 +55,15 @@ module _ (outside : Point) (c : List Float) (m : ℕ) (is : verticesIn c ≡ m +
       (λ j. normalised (differenceOf (vertex 1 1 (omega arith) refl j) (vertex 0 0 (omega arith) refl j)))
   framez-is (suc g) l =
       let long = sized in
+      let back : m ≡ m - 1 + 1 = omega arith in
+      let here : minus outside (suc g) 1 ≡ suc g - 1 = minus-is outside (suc g) 1 (suc g - 1) (omega arith) in
       let within = lt-ltb (suc g) (length curve) (omega arith) in
       ⊎-elim
-      (λ (last : suc g ≡ m). rw (within, ne-eqb (suc g) 0 (λ e. omega arith), eq-eqb (suc g) (length curve - 1) (omega arith), eq-eqb (suc g) m last)
-      (λ j. normalised (differenceOf (vertex (length curve - 1) (m - 1 + 1) (omega arith) (omega arith) j) (vertex (length curve - 2) (m - 1) (omega arith) (omega arith) j))))
-      (λ (inner : suc g < m). rw (within, ne-eqb (suc g) 0 (λ e. omega arith), ne-eqb (suc g) (length curve - 1) (λ e. omega arith), ne-eqb (suc g) m (λ e. omega arith))
+      (λ (last : suc g ≡ m). rw (within, ne-eqb (suc g) 0 (λ e. omega arith), eq-eqb (suc g) (minus outside (length curve) 1) (last ∙ sym one-less), eq-eqb (suc g) m last)
+      (λ j. normalised (differenceOf (vertex (minus outside (length curve) 1) (m - 1 + 1) (omega arith) (one-less ∙ back) j) (vertex (minus outside (length curve) 2) (m - 1) (omega arith) two-less j))))
+      (λ (inner : suc g < m). rw (within, ne-eqb (suc g) 0 (λ e. omega arith), ne-eqb (suc g) (minus outside (length curve) 1) (λ e. omega (arith, e ∙ one-less)), ne-eqb (suc g) m (λ e. omega arith))
       (λ j. normalised (sumOf
-      (normalised (differenceOf (vertex (suc g) (suc g - 1 + 1) (omega arith) (omega arith) j) (vertex (suc g - 1) (suc g - 1) (omega arith) refl j)))
+      (normalised (differenceOf (vertex (suc g) (suc g - 1 + 1) (omega arith) (omega arith) j) (vertex (minus outside (suc g) 1) (suc g - 1) (omega arith) here j)))
       (normalised (differenceOf (vertex (suc g + 1) (suc g + 1) (omega arith) refl j) (vertex (suc g) (suc g) l refl j))))))
       (eq-or-lt-of-le (omega arith))
 
@@ -86,12 +96,14 @@ module _ (outside : Point) (c : List Float) (m : ℕ) (is : verticesIn c ≡ m +
   pub framex-is : rust.vtx2framex outside curve ≡ pointsOf (m + 1) ex
   unfolding rust.vtx2framex frameOf segmentDirection segmentOf
   framex-is =
-      let one : m + 1 - 1 ≡ m = omega arith in
-      rw (sized, one) (last-copied (m + 1 - 2) (omega arith) _
+      let last : minus outside (m + 1) 1 ≡ m = minus-is outside (m + 1) 1 m refl in
+      rw (sized, last) (last-copied (minus outside (m + 1) 2) (minus-is outside (m + 1) 2 (m - 1) (omega arith)) _
       (frames-carried outside Open m c (m + 1) m _ _ h (omega arith)
       (λ j. firstFrame (differenceOf (vertex 1 1 (omega arith) refl j) (vertex 0 0 (omega arith) refl j)) .ex)
-      (λ i l u t j. change t i (λ old. transported (record { ex = read outside t (i - 1) })
-      (normalised (differenceOf (vertex i (i - 1 + 1) (omega arith) (omega arith) j) (vertex (i - 1) (i - 1) (omega arith) refl j)))
+      (λ i l u t j.
+      let before : minus outside i 1 ≡ i - 1 = minus-is outside i 1 (i - 1) (omega arith) in
+      change t i (λ old. transported (record { ex = read outside t (before j) })
+      (normalised (differenceOf (vertex i (i - 1 + 1) (omega arith) (omega arith) j) (vertex (minus outside i 1) (i - 1) (omega arith) before j)))
       (normalised (differenceOf (vertex (i + 1) (i + 1) (omega arith) refl j) (vertex i i (omega arith) refl j))) .ex))))
 
   pub ex-at : (k g : ℕ) → g < m + 1 → k ≡ g → read outside (rust.vtx2framex outside curve) k ≡ ex g

@@ -1,7 +1,7 @@
 -- The ribbon of polyline3.rs is document 01's. Assumes nothing.
 use mathlib.Core.Path.{_≡_, refl, ap, _∙_}
 use mathlib.Core.List.{List, [], _∷_}
-use Prim.Native.Nat.{ℕ, _+_, _-_, _*_, _≤_}
+use Prim.Native.Nat.{ℕ, _+_, _*_, _≤_}
 use native.Mathlib.Omega.{arith}
 use lib.Ieee.{Float}
 use lib.ListN.{length, length-replicate}
@@ -14,14 +14,14 @@ use Rattle.kinds.specs.Lists.{ribbonQuad, ribbonTriangles}
 use Rattle.curve.specs.Segments.{verticesIn, vertexOf}
 use Rattle.bodies.specs.Polyline3 as paper
 use Rattle.del_msh.specs.Vectors.{vec}
-use Rattle.del_msh.specs.Arrays.{zeros, zeroTriangle}
+use Rattle.del_msh.specs.Arrays.{Outside, zeros, zeroTriangle}
 use Rattle.del_msh.specs.Polyline3 as rust
 use Rattle.del_msh.specs.Adapted.{chunks, floats}
 use Rattle.del_msh.proofs.Loops.{two-assigned, fills}
 use Rattle.del_msh.proofs.Floats.{floats-blocks}
-use Rattle.del_msh.proofs.OpenFrames.{sized, vertex, ex-at}
+use Rattle.del_msh.proofs.OpenFrames.{sized, one-less, vertex, ex-at}
 
-module _ (outside : Point) (c : List Float) (m : ℕ) (is : verticesIn c ≡ m + 1) (h : 1 ≤ m) (width : Float) where
+module _ (outside : Outside) (c : List Float) (m : ℕ) (is : verticesIn c ≡ m + 1) (h : 1 ≤ m) (width : Float) where
   abbrev pair : ℕ → List Point
   pair g = vertexOf c g ∷ sumOf (vertexOf c g) (scaled (paper.vtx2framex m c g .ex) width) ∷ []
 
@@ -43,11 +43,10 @@ module _ (outside : Point) (c : List Float) (m : ℕ) (is : verticesIn c ≡ m +
   pub ribbon-triangles : rust.to-trimesh3-ribbon outside (chunks c) (rust.vtx2framex outside (chunks c)) width .0 ≡ ribbonTriangles m
   unfolding rust.to-trimesh3-ribbon
   ribbon-triangles =
-      let one : m + 1 - 1 ≡ m = omega arith in
       let room = m * 2 in
       let t₀ = vec zeroTriangle room in
       let long : length t₀ ≡ room = length-replicate room zeroTriangle in
-      rw (sized outside c m is h, one) (fills m 0 2 ribbonQuad _ t₀ (λ g. refl) (λ g l t as-long.
+      rw (one-less outside c m is h) (fills m 0 2 ribbonQuad _ t₀ (λ g. refl) (λ g l t as-long.
       let same : g * 2 ≡ 2 * g = omega arith in
       two-assigned room (g * 2) (0 + g * 2) t (omega arith) (omega arith)
       (λ j. triangle (same j) (same j + 1) (same j + 2)) (λ j. triangle (same j + 1) (same j + 3) (same j + 2))

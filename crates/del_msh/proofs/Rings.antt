@@ -1,7 +1,7 @@
 -- Rings of points, as the loops over `i_vtxl`, `il` or `ir` and `ic` make them. Assumes nothing.
 use mathlib.Core.Path.{_≡_, refl, sym, ap, _∙_}
 use mathlib.Core.List.{List, [], _∷_, _++_}
-use Prim.Native.Nat.{ℕ, _+_, _-_, _*_, _≤_, _<_}
+use Prim.Native.Nat.{ℕ, _+_, _*_, _≤_, _<_}
 use native.Mathlib.Nat.{one-mul, zero-add}
 use native.Mathlib.Omega.{arith}
 use lib.ListN.{length}
@@ -13,9 +13,10 @@ use Rattle.vec3.specs.declared.points.Point.{Point}
 use Rattle.vec3.specs.declared.turns.Direction.{Direction}
 use Rattle.rings.specs.Vertices.{ringOf}
 use Rattle.del_msh.specs.Vectors.{turns}
-use Rattle.del_msh.specs.Arrays.{xyz, assignX, assignY, assignZ}
+use Rattle.del_msh.specs.Arrays.{Outside, minus, xyz, assignX, assignY, assignZ}
 use Rattle.del_msh.specs.Adapted.{floats}
 use Rattle.del_msh.proofs.Loops.{assigned-by-three, fills, pushes}
+use Rattle.del_msh.proofs.Differences.{minus-is}
 use Rattle.del_msh.proofs.Floats.{floats-blocks}
 
 -- `TAU * i / n`, in either order, is turn(i, n)
@@ -48,9 +49,10 @@ point-assigned-by-three room p q {v} t h place is long =
     ∙ (λ j. overwrite (place j) (is j ∷ []) t)
 
 -- the last point, at `vtx2xyz.len() - 1`
-pub last-assigned-by-three : (room q : ℕ) {v w : Point} (t : List Point) → q + 1 ≡ room → v ≡ w → length t ≡ room
-    → (let p = length t - 1 in assignZ (assignY (assignX t p (v .x)) p (v .y)) p (v .z)) ≡ overwrite q (w ∷ []) t
-last-assigned-by-three room q t h is long = point-assigned-by-three room (length t - 1) q t (omega arith) (omega arith) is long
+pub last-assigned-by-three : (outside : Outside) (room q : ℕ) {v w : Point} (t : List Point) → q + 1 ≡ room → v ≡ w → length t ≡ room
+    → (let p = minus outside (length t) 1 in assignZ (assignY (assignX t p (v .x)) p (v .y)) p (v .z)) ≡ overwrite q (w ∷ []) t
+last-assigned-by-three outside room q t h is long =
+    point-assigned-by-three room (minus outside (length t) 1) q t (omega arith) (minus-is outside (length t) 1 q (omega arith)) is long
 
 -- Two loops, one in the other, that assign k rings of n points from place `at` on; and that push them.
 pub rings-assigned : (room k n at : ℕ) (vertex : ℕ → Direction → Point) (turn : ℕ → ℕ → List Point → List Point) (t₀ : List Point) → at + k * n ≤ room

@@ -1,7 +1,7 @@
 -- The triangle lists of trimesh3_primitive.rs are document 01's. Assumes nothing.
 use mathlib.Core.Path.{_≡_, refl, ap, _∙_}
 use mathlib.Core.List.{List, [], _∷_, _++_, append-assoc}
-use Prim.Native.Nat.{ℕ, _+_, _-_, _*_, _/_, _%_, _≤_, _<_}
+use Prim.Native.Nat.{ℕ, _+_, _*_, _/_, _%_, _≤_, _<_}
 use native.Mathlib.Nat.{add-zero, mod-eq-of-lt, mul-div-cancel}
 use native.Mathlib.Omega.{arith}
 use borrow.Author.Tests.{eq-eqb}
@@ -13,8 +13,9 @@ use Rattle.laws.specs.Blocks.{blocks, length-blocks}
 use Rattle.surface.specs.Triangles.{Triangle, triangle}
 use Rattle.kinds.specs.Lists.{next, ring, layerQuad, layers, bottomTriangles, topTriangles, closedTriangles, tubeQuad, tubeTriangles}
 use Rattle.del_msh.specs.Vectors.{vec}
-use Rattle.del_msh.specs.Arrays.{zeroTriangle, assign0, assign1, assign2, first, second, third}
+use Rattle.del_msh.specs.Arrays.{Outside, minus, zeroTriangle, assign0, assign1, assign2, first, second, third}
 use Rattle.del_msh.specs.Trimesh3Primitive.{cylinder-open-end-set-topology, cylinder-closed-end-topology}
+use Rattle.del_msh.proofs.Differences.{minus-is}
 use Rattle.del_msh.proofs.Loops.{assigned-by-three, fills, pushes}
 
 -- a triangle, and the two of a quad, pushed under other names of their indices
@@ -29,11 +30,11 @@ quad-pushed t p q r u v w = append-assoc t _ _ ∙ (λ j. t ++ (triangle (p j) (
 at-itself : (i n : ℕ) → i < n → (i + 0) % n ≡ i
 at-itself i n h = ap (λ (k : ℕ). k % n) (add-zero i) ∙ mod-eq-of-lt h
 
-pub closed-topology : (S n : ℕ) → cylinder-closed-end-topology S n ≡ closedTriangles n S
+pub closed-topology : (outside : Outside) (S n : ℕ) → cylinder-closed-end-topology outside S n ≡ closedTriangles n S
 unfolding cylinder-closed-end-topology
-closed-topology S n =
-    let one-less : S + 2 - 1 ≡ S + 1 = omega arith in
-    let two-less : S + 2 - 2 ≡ S = omega arith in
+closed-topology outside S n =
+    let one-less : minus outside (S + 2) 1 ≡ S + 1 = minus-is outside (S + 2) 1 (S + 1) (omega arith) in
+    let two-less : minus outside (S + 2) 2 ≡ S = minus-is outside (S + 2) 2 S refl in
     rw (one-less, two-less) (
     pushes n (λ i. triangle (n * (S + 1) + 1) (ring n S (next n i)) (ring n S i) ∷ []) _ _
     (λ i h t. let e = at-itself i n h in triangle-pushed t (omega arith) (omega arith) (omega arith))
@@ -67,10 +68,10 @@ quad-assigned p q xs {a} {b} {c} {d} {e} {f} h place u v w x y z =
 length-row : (n g : ℕ) → length (blocks n (tubeQuad n g)) ≡ n * 2
 length-row n g = length-blocks 2 n (tubeQuad n g) (λ i h. refl)
 
-pub open-topology : (n m : ℕ) → 1 ≤ m → cylinder-open-end-set-topology (vec zeroTriangle (m * n * 2)) (m + 1) ≡ tubeTriangles n m
+pub open-topology : (outside : Outside) (n m : ℕ) → 1 ≤ m → cylinder-open-end-set-topology outside (vec zeroTriangle (m * n * 2)) (m + 1) ≡ tubeTriangles n m
 unfolding cylinder-open-end-set-topology
-open-topology n m h =
-    let side : m + 1 - 1 ≡ m = omega arith in
+open-topology outside n m h =
+    let side : minus outside (m + 1) 1 ≡ m = minus-is outside (m + 1) 1 m refl in
     let sized : length (vec zeroTriangle (m * n * 2)) ≡ m * n * 2 = length-replicate (m * n * 2) zeroTriangle in
     let same : m * n * 2 ≡ n * (2 * m) = omega arith in
     let round : length (vec zeroTriangle (m * n * 2)) / (2 * m) ≡ n = ap (λ (k : ℕ). k / (2 * m)) (sized ∙ same) ∙ mul-div-cancel n (omega arith) in

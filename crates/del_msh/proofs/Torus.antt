@@ -19,18 +19,19 @@ use Rattle.curve.specs.Framex.{frameOf}
 use Rattle.rings.specs.Axes.{axesAt}
 use Rattle.rings.specs.Vertices.{torusVertex}
 use Rattle.bodies.specs.Polyloop3 as paper
-use Rattle.del_msh.specs.Vectors.{vec, read, change}
-use Rattle.del_msh.specs.Arrays.{zeros}
+use Rattle.del_msh.specs.Vectors.{vec, change}
+use Rattle.del_msh.specs.Arrays.{minus, Outside, read, zeros}
 use Rattle.del_msh.specs.DelGeoCore.{cos, sin}
 use Rattle.del_msh.specs.Polyloop3 as rust
 use Rattle.del_msh.specs.Adapted.{chunks, floats}
+use Rattle.del_msh.proofs.Differences.{minus-is}
 use Rattle.del_msh.proofs.Loops.{pushes}
 use Rattle.del_msh.proofs.Rings.{whole-turn, ringsPoints, rings-floats, rings-pushed}
 use Rattle.del_msh.proofs.Topology.{quad-pushed}
 use Rattle.del_msh.proofs.Curve.{length-chunks, vertex-at}
 use Rattle.del_msh.proofs.Frames.{pointsOf, length-points, point-at, frames-carried}
 
-module _ (outside : Point) (c : List Float) (N : ℕ) (is : verticesIn c ≡ N) (h : 2 ≤ N) where
+module _ (outside : Outside) (c : List Float) (N : ℕ) (is : verticesIn c ≡ N) (h : 2 ≤ N) where
   sized : length (chunks c) ≡ N
   sized = length-chunks c ∙ is
 
@@ -53,9 +54,10 @@ module _ (outside : Point) (c : List Float) (N : ℕ) (is : verticesIn c ≡ N) 
       (λ j. firstFrame (differenceOf (vertex 1 (1 % N) (omega arith) wrapped j) (vertex 0 0 (omega arith) refl j)) .ex)
       (λ i l u t j.
       let e : i - 1 + 1 ≡ i = omega arith in
+      let before : minus outside i 1 ≡ i - 1 = minus-is outside i 1 (i - 1) (omega arith) in
       let here : i ≡ (i - 1 + 1) % N = sym (ap (λ (k : ℕ). k % N) e ∙ mod-eq-of-lt u) in
-      change t i (λ old. transported (record { ex = read outside t (i - 1) })
-      (normalised (differenceOf (vertex i ((i - 1 + 1) % N) (omega arith) here j) (vertex (i - 1) (i - 1) (omega arith) refl j)))
+      change t i (λ old. transported (record { ex = read outside t (before j) })
+      (normalised (differenceOf (vertex i ((i - 1 + 1) % N) (omega arith) here j) (vertex (minus outside i 1) (i - 1) (omega arith) before j)))
       (normalised (differenceOf (next i j) (vertex i i u refl j))) .ex))
       ∙ overwrite-all (pointsOf N ex) t₀ (length-points N ex ∙ sym (length-replicate N zeros)))
 

@@ -14,8 +14,8 @@ use Rattle.vec3.specs.declared.turns.Direction.{Direction}
 use Rattle.curve.specs.Segments.{verticesIn}
 use Rattle.rings.specs.Vertices.{tubeVertex}
 use Rattle.bodies.specs.Polyline3 as paper
-use Rattle.del_msh.specs.Vectors.{vec, read}
-use Rattle.del_msh.specs.Arrays.{zeros}
+use Rattle.del_msh.specs.Vectors.{vec}
+use Rattle.del_msh.specs.Arrays.{Outside, read, zeros}
 use Rattle.del_msh.specs.DelGeoCore.{TAU, mul, div, cos, sin}
 use Rattle.del_msh.specs.Polyline3 as rust
 use Rattle.del_msh.specs.Adapted.{chunks, floats}
@@ -23,7 +23,7 @@ use Rattle.del_msh.proofs.Loops.{assigned}
 use Rattle.del_msh.proofs.Rings.{whole-turn, ringsPoints, length-rings, rings-floats, rings-assigned}
 use Rattle.del_msh.proofs.OpenFrames.{sized, vertex, ex-at, ey-at}
 
-module _ (outside : Point) (c : List Float) (m : ℕ) (is : verticesIn c ≡ m + 1) (h : 1 ≤ m) (r : Float) (n : ℕ) where
+module _ (outside : Outside) (c : List Float) (m : ℕ) (is : verticesIn c ≡ m + 1) (h : 1 ≤ m) (r : Float) (n : ℕ) where
   abbrev pub side : ℕ → Direction → Point
   side g = tubeVertex (paper.axesOf m c g) r
 

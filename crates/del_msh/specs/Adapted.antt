@@ -13,7 +13,7 @@ use Rattle.descriptions.specs.declared.description.Description.{Description}
 use Rattle.descriptions.specs.declared.description.Description.the-variants.{Ribbon, Tube, Capsule, Torus, ClosedCylinder}
 use Rattle.bodies.specs.Bodies.{verticesOf}
 use Rattle.del_msh.specs.Vectors.{vec}
-use Rattle.del_msh.specs.Arrays.{xyz, zeros, zeroTriangle}
+use Rattle.del_msh.specs.Arrays.{Outside, minus, xyz, zeros, zeroTriangle}
 use Rattle.del_msh.specs.Trimesh3Primitive.{TriMesh, cylinder-open-end-number-of-tri-and-vtx, cylinder-open-end-set-topology, cylinder-closed-end-yup}
 use Rattle.del_msh.specs.Polyline3 as polyline3
 use Rattle.del_msh.specs.Polyloop3 as polyloop3
@@ -30,14 +30,14 @@ abbrev pub floats : List Point → List Float
 floats [] = []
 floats (p ∷ points) = p .x ∷ p .y ∷ p .z ∷ floats points
 
-module _ (outside : Point) where
+module _ (outside : Outside) where
   -- "The source fills slices here, whose lengths its caller works out."
   abbrev pub tube : List Point → ℕ → Float → TriMesh
   tube curve divisions radius =
-      let counts = cylinder-open-end-number-of-tri-and-vtx divisions (length curve - 1) in
+      let counts = cylinder-open-end-number-of-tri-and-vtx divisions (minus outside (length curve) 1) in
       let tri2vtx = vec zeroTriangle (counts .0) in
       let vtx2xyz = vec zeros (counts .1) in
-      let tri2vtx = cylinder-open-end-set-topology tri2vtx (length curve) in
+      let tri2vtx = cylinder-open-end-set-topology outside tri2vtx (length curve) in
       let vtx2xyz = polyline3.set-vtx2xyz-for-generalized-cylinder-open-end outside vtx2xyz curve radius in
       (tri2vtx, vtx2xyz)
 
@@ -46,7 +46,7 @@ module _ (outside : Point) where
   body (Tube divisions radius) c = tube (chunks c) divisions radius
   body (Capsule divisions longitudes radius) c = polyline3.to-trimesh3-capsule outside (chunks c) divisions longitudes radius
   body (Torus divisions radius) c = polyloop3.to-trimesh3-torus outside (chunks c) (polyloop3.vtx2framex outside (chunks c)) radius divisions
-  body (ClosedCylinder divisions layers centred radius length) c = cylinder-closed-end-yup radius length divisions layers centred
+  body (ClosedCylinder divisions layers centred radius length) c = cylinder-closed-end-yup outside radius length divisions layers centred
 
   -- triangles, and the floats of its vertices
   abbrev pub rustBody : Description → List Float → List Triangle × List Float

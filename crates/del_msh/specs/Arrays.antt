@@ -1,7 +1,11 @@
--- The arrays that the vectors of the source hold: `[f32; 3]` is a point, `[usize; 3]` a triangle. Definitions only.
+-- The arrays that the vectors of the source hold, `[f32; 3]` for a point and `[usize; 3]` for a triangle, read and assigned; and differences of
+-- `usize`. Definitions only.
+use mathlib.Core.Bool.{cond}
 use mathlib.Core.List.{List}
-use Prim.Native.Nat.{ℕ}
+use Prim.Native.Nat.{ℕ, _-_}
+use lib.Dec.{leb}
 use lib.Ieee.{Float, binary32, ofBits}
+use lib.ListN.{getD}
 use Rattle.surface.specs.Triangles.{Triangle, triangle}
 use Rattle.vec3.specs.declared.points.Point.{Point}
 use Rattle.del_msh.specs.Vectors.{change}
@@ -23,6 +27,19 @@ zeros = xyz zero zero zero
 
 abbrev pub zeroTriangle : Triangle
 zeroTriangle = triangle 0 0 0
+
+-- What a read past a list's end, and a difference below zero, would give. The Rust panics there; of these nothing is known.
+pub record Outside : Type 0 where
+  pub point : Point
+  pub number : ℕ
+
+-- `points[i]`
+abbrev pub read : Outside → List Point → ℕ → Point
+read outside points i = getD points i (outside .point)
+
+-- `a - b`
+abbrev pub minus : Outside → ℕ → ℕ → ℕ
+minus outside a b = cond (leb b a) (a - b) (outside .number)
 
 -- `xs[i][0] = v`, `xs[i][1] = v` and `xs[i][2] = v` of points
 abbrev pub assignX : List Point → ℕ → Float → List Point

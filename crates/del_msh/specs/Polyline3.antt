@@ -2,21 +2,24 @@
 -- with - for _ in a name. Line numbers are the source's; tests/src/del_msh/polyline3.rs has the same text to be run. Definitions only.
 use mathlib.Core.Bool.{true}
 use mathlib.Core.List.{List}
-use Prim.Native.Nat.{ℕ, _+_, _-_, _*_, _/_}
+use Prim.Native.Nat.{ℕ, _+_, _*_, _/_}
 use lib.Dec.{eqb, ltb}
 use lib.Ieee.{Float, neg}
 use lib.ListN.{length}
 use Rattle.surface.specs.Triangles.{triangle}
 use Rattle.vec3.specs.Points.{times}
 use Rattle.vec3.specs.declared.points.Point.{Point}
-use Rattle.del_msh.specs.Vectors.{vec, read, assert, assign, if, for, _‥_}
-use Rattle.del_msh.specs.Arrays.{one, zeros, zeroTriangle, assignX, assignY, assignZ}
+use Rattle.del_msh.specs.Vectors.{vec, assert, assign, if, for, _‥_}
+use Rattle.del_msh.specs.Arrays.{Outside, read, minus, one, zeros, zeroTriangle, assignX, assignY, assignZ}
 use Rattle.del_msh.specs.DelGeoCore.{TAU, FRAC-PI-2, mul, div, cos, sin}
 use Rattle.del_msh.specs.DelGeoCore.{add, sub, scale, cross, normalize, basis-xy-from-basis-z, minimum-rotation-matrix, mult-vec}
 use Rattle.del_msh.specs.Trimesh3Primitive.{TriMesh, cylinder-closed-end-yup}
 
--- what a read past a list's end would give
-module _ (outside : Point) where
+module _ (outside : Outside) where
+  infixl 65 _-_
+  abbrev _-_ : ℕ → ℕ → ℕ
+  _-_ = minus outside
+
   infixl 90 _at_
   abbrev _at_ : List Point → ℕ → Point
   _at_ = read outside
@@ -121,7 +124,7 @@ module _ (outside : Point) where
       let vtxl2framex = vtx2framex vtxl2xyz in
       let vtxl2framey = vtx2framey vtxl2xyz vtxl2framex in
       let ndiv-length = num-vtxl - 1 in
-      let tri2vtx-vtx2xyz = cylinder-closed-end-yup one one ndiv-circum (2 * ndiv-longtitude + ndiv-length - 2) true in
+      let tri2vtx-vtx2xyz = cylinder-closed-end-yup outside one one ndiv-circum (2 * ndiv-longtitude + ndiv-length - 2) true in
       let tri2vtx = tri2vtx-vtx2xyz .0 in
       let vtx2xyz = tri2vtx-vtx2xyz .1 in
       let vtx2xyz = assert (eqb (length vtx2xyz) ((2 * ndiv-longtitude + ndiv-length - 1) * ndiv-circum + 2)) vtx2xyz in

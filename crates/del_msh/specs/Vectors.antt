@@ -1,11 +1,10 @@
--- What Rust itself means by the lines that build a list: a vector made, read, assigned and pushed onto, `assert!`, `if` and `for`. A vector or a
--- slice is the list of its elements, a `usize` a natural number: no difference of the source goes below 0 where `Asked` (Adapted.antt) holds.
--- Definitions only.
+-- What Rust itself means by the lines that build a list: a vector made, assigned and pushed onto, `assert!`, `if` and `for`. A vector or a slice is
+-- the list of its elements, a `usize` a natural number. Definitions only.
 use mathlib.Core.Bool.{Bool, cond}
 use mathlib.Core.List.{List, [], _∷_, _++_}
 use Prim.Native.Nat.{ℕ, zero, suc}
 use lib.Dec.{leb, ltb}
-use lib.ListN.{length, getD, replicate}
+use lib.ListN.{length, replicate}
 
 module _ {ℓ} {A : Type ℓ} where
   -- `vec![x; n]`
@@ -15,10 +14,6 @@ module _ {ℓ} {A : Type ℓ} where
   -- `xs.push(x)`
   abbrev pub push : List A → A → List A
   push xs x = xs ++ (x ∷ [])
-
-  -- `xs[i]`, read. Past the end, where the Rust panics, it is `outside`, of which nothing is known.
-  abbrev pub read : A → List A → ℕ → A
-  read outside xs i = getD xs i outside
 
   -- `assert!(test)`, beside the vector that the lines after it use. Where it fails the Rust panics: nothing is left.
   abbrev pub assert : Bool → List A → List A
