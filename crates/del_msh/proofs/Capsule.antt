@@ -24,7 +24,7 @@ use Rattle.del_msh.specs.DelGeoCore.{TAU, FRAC-PI-2, mul, div, cos, sin}
 use Rattle.del_msh.specs.Trimesh3Primitive.{cylinder-closed-end-yup}
 use Rattle.del_msh.specs.Polyline3 as rust
 use Rattle.del_msh.specs.Adapted.{chunks, floats}
-use Rattle.del_msh.proofs.Differences.{minus-is}
+use Rattle.del_msh.proofs.Usize.{minus-is}
 use Rattle.del_msh.proofs.Floats.{floats-append}
 use Rattle.del_msh.proofs.Rings.{whole-turn, ringsPoints, length-rings, rings-floats, point-assigned-by-three, last-assigned-by-three, rings-assigned, behind}
 use Rattle.del_msh.proofs.ClosedCylinder.{yup-length, yup-triangles}

@@ -22,7 +22,7 @@ use Rattle.del_msh.specs.Trimesh3Primitive.{cylinder-closed-end-yup}
 use Rattle.del_msh.specs.Adapted.{floats}
 use Rattle.del_msh.proofs.Loops.{assigned}
 use Rattle.del_msh.proofs.Floats.{floats-append}
-use Rattle.del_msh.proofs.Differences.{minus-is}
+use Rattle.del_msh.proofs.Usize.{minus-is}
 use Rattle.del_msh.proofs.Topology.{closed-topology}
 use Rattle.del_msh.proofs.Rings.{whole-turn, ringsPoints, length-rings, rings-floats, rings-assigned, behind}
 

@@ -1,6 +1,6 @@
 pub mod Loops
 pub mod Floats
-pub mod Differences
+pub mod Usize
 pub mod Rings
 pub mod Topology
 pub mod ClosedCylinder

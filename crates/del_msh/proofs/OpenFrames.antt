@@ -24,7 +24,7 @@ use Rattle.del_msh.specs.Vectors.{vec, change}
 use Rattle.del_msh.specs.Arrays.{minus, Outside, read, zeros}
 use Rattle.del_msh.specs.Polyline3 as rust
 use Rattle.del_msh.specs.Adapted.{chunks}
-use Rattle.del_msh.proofs.Differences.{minus-is}
+use Rattle.del_msh.proofs.Usize.{minus-is}
 use Rattle.del_msh.proofs.Loops.{assigned, fills}
 use Rattle.del_msh.proofs.Rings.{behind}
 use Rattle.del_msh.proofs.Curve.{length-chunks, vertex-at}

@@ -16,7 +16,7 @@ use Rattle.del_msh.specs.Vectors.{turns}
 use Rattle.del_msh.specs.Arrays.{Outside, minus, xyz, assignX, assignY, assignZ}
 use Rattle.del_msh.specs.Adapted.{floats}
 use Rattle.del_msh.proofs.Loops.{assigned-by-three, fills, pushes}
-use Rattle.del_msh.proofs.Differences.{minus-is}
+use Rattle.del_msh.proofs.Usize.{minus-is}
 use Rattle.del_msh.proofs.Floats.{floats-blocks}
 
 -- `TAU * i / n`, in either order, is turn(i, n)

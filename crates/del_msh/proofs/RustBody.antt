@@ -17,7 +17,7 @@ use Rattle.descriptions.proofs.Shapes.{shape-bounds, checked-shape}
 use Rattle.del_msh.specs.Arrays.{minus, Outside}
 use Rattle.del_msh.specs.Trimesh3Primitive.{cylinder-open-end-number-of-tri-and-vtx}
 use Rattle.del_msh.specs.Adapted.{rustBody, paperBody, Asked}
-use Rattle.del_msh.proofs.Differences.{minus-is}
+use Rattle.del_msh.proofs.Usize.{minus-is}
 use Rattle.del_msh.proofs.Topology.{open-topology}
 use Rattle.del_msh.proofs.ClosedCylinder.{yup-floats, yup-triangles}
 use Rattle.del_msh.proofs.OpenFrames.{sized}
@@ -26,7 +26,8 @@ use Rattle.del_msh.proofs.Tube.{tube-floats}
 use Rattle.del_msh.proofs.Capsule.{capsule-floats, capsule-triangles}
 use Rattle.del_msh.proofs.Torus.{torus-floats, torus-triangles}
 
--- No assignment lies outside its list and no assert fails, since nothing would be left then; no value hangs on a read outside, whatever it gives.
+-- So no assignment lies outside its list and no assert fails, since nothing would be left then, and nothing hangs on a read past an end, a
+-- difference below zero or a quotient by zero, whatever these would give.
 pub rust-body : (outside : Outside) (d : Description) (c : List Float) → Asked d (verticesIn c) → rustBody outside d c ≡ paperBody d c
 unfolding cylinder-open-end-number-of-tri-and-vtx
 rust-body outside (Ribbon width) c two =

@@ -1,7 +1,7 @@
 -- The frames and the torus of polyloop3.rs are document 01's. Assumes nothing.
 use mathlib.Core.Path.{_≡_, refl, sym, ap, _∙_}
 use mathlib.Core.List.{List, [], _∷_, _++_}
-use Prim.Native.Nat.{ℕ, _+_, _-_, _%_, _≤_, _<_}
+use Prim.Native.Nat.{ℕ, _+_, _-_, _*_, _%_, _≤_, _<_}
 use native.Mathlib.Nat.{mod-eq-of-lt, mod-lt}
 use native.Mathlib.Omega.{arith}
 use lib.Ieee.{Float}
@@ -20,11 +20,11 @@ use Rattle.rings.specs.Axes.{axesAt}
 use Rattle.rings.specs.Vertices.{torusVertex}
 use Rattle.bodies.specs.Polyloop3 as paper
 use Rattle.del_msh.specs.Vectors.{vec, change}
-use Rattle.del_msh.specs.Arrays.{minus, Outside, read, zeros}
+use Rattle.del_msh.specs.Arrays.{minus, remainder, Outside, read, zeros}
 use Rattle.del_msh.specs.DelGeoCore.{cos, sin}
 use Rattle.del_msh.specs.Polyloop3 as rust
 use Rattle.del_msh.specs.Adapted.{chunks, floats}
-use Rattle.del_msh.proofs.Differences.{minus-is}
+use Rattle.del_msh.proofs.Usize.{minus-is, remainder-is}
 use Rattle.del_msh.proofs.Loops.{pushes}
 use Rattle.del_msh.proofs.Rings.{whole-turn, ringsPoints, rings-floats, rings-pushed}
 use Rattle.del_msh.proofs.Topology.{quad-pushed}
@@ -39,8 +39,8 @@ module _ (outside : Outside) (c : List Float) (N : ℕ) (is : verticesIn c ≡ N
   vertex k k′ l same = vertex-at outside c k k′ (omega arith) same
 
   -- the vertex after vertex k
-  next : (k : ℕ) → read outside (chunks c) ((k + 1) % N) ≡ vertexOf c ((k + 1) % N)
-  next k = vertex ((k + 1) % N) ((k + 1) % N) (mod-lt (k + 1) (omega arith)) refl
+  next : (k : ℕ) → read outside (chunks c) (remainder outside (k + 1) N) ≡ vertexOf c ((k + 1) % N)
+  next k = vertex (remainder outside (k + 1) N) ((k + 1) % N) (mod-lt (k + 1) (omega arith)) (remainder-is outside (k + 1) N (omega arith))
 
   abbrev ex : ℕ → Point
   ex g = paper.vtx2framex N c g .ex
@@ -75,7 +75,7 @@ module _ (outside : Outside) (c : List Float) (N : ℕ) (is : verticesIn c ≡ N
         let p = vertex g g hg refl in
         let x = ex-at g hg in
         let d = whole-turn i n in
-        let y : crossOf (normalised (differenceOf (read outside (chunks c) ((g + 1) % N)) (read outside (chunks c) g))) (read outside (rust.vtx2framex outside (chunks c)) g)
+        let y : crossOf (normalised (differenceOf (read outside (chunks c) (remainder outside (g + 1) N)) (read outside (chunks c) g))) (read outside (rust.vtx2framex outside (chunks c)) g)
         ≡ paper.axesOf N c g .ey = λ j. crossOf (normalised (differenceOf (next g j) (p j))) (x j) in
         λ j. t ++ (sumOf (p j) (scaled (sumOf (scaled (x j) (d j .cos)) (scaled (y j) (d j .sin))) r) ∷ [])))
 
@@ -85,5 +85,7 @@ module _ (outside : Outside) (c : List Float) (N : ℕ) (is : verticesIn c ≡ N
     pub torus-triangles : rust.to-trimesh3-torus outside (chunks c) (rust.vtx2framex outside (chunks c)) r n .0 ≡ torusTriangles n N
     unfolding rust.to-trimesh3-torus
     torus-triangles =
-        rw sized (pushes N (λ g. blocks n (torusQuad n N g)) _ [] (λ g hg t.
-        pushes n (torusQuad n N g) _ t (λ i hi t′. quad-pushed t′ refl refl refl refl refl refl)))
+        rw sized (pushes N (λ g. blocks n (torusQuad n N g)) _ [] (λ g hg t. pushes n (torusQuad n N g) _ t (λ i hi t′.
+        let ring = remainder-is outside (g + 1) N (omega arith) in
+        let after = remainder-is outside (i + 1) n (omega arith) in
+        quad-pushed t′ refl (λ j. g * n + after j) (λ j. ring j * n + i) (λ j. ring j * n + after j) (λ j. ring j * n + i) (λ j. g * n + after j))))

@@ -1,7 +1,7 @@
 -- The tube of polyline3.rs is document 01's. Assumes nothing.
 use mathlib.Core.Path.{_≡_, refl, ap, _∙_}
 use mathlib.Core.List.{List}
-use Prim.Native.Nat.{ℕ, _+_, _*_, _/_, _≤_, _<_}
+use Prim.Native.Nat.{ℕ, _+_, _*_, _≤_, _<_}
 use native.Mathlib.Nat.{mul-div-cancel}
 use native.Mathlib.Omega.{arith}
 use lib.Ieee.{Float}
@@ -15,10 +15,11 @@ use Rattle.curve.specs.Segments.{verticesIn}
 use Rattle.rings.specs.Vertices.{tubeVertex}
 use Rattle.bodies.specs.Polyline3 as paper
 use Rattle.del_msh.specs.Vectors.{vec}
-use Rattle.del_msh.specs.Arrays.{Outside, read, zeros}
+use Rattle.del_msh.specs.Arrays.{Outside, read, quotient, zeros}
 use Rattle.del_msh.specs.DelGeoCore.{TAU, mul, div, cos, sin}
 use Rattle.del_msh.specs.Polyline3 as rust
 use Rattle.del_msh.specs.Adapted.{chunks, floats}
+use Rattle.del_msh.proofs.Usize.{quotient-is}
 use Rattle.del_msh.proofs.Loops.{assigned}
 use Rattle.del_msh.proofs.Rings.{whole-turn, ringsPoints, length-rings, rings-floats, rings-assigned}
 use Rattle.del_msh.proofs.OpenFrames.{sized, vertex, ex-at, ey-at}
@@ -45,7 +46,7 @@ module _ (outside : Outside) (c : List Float) (m : ℕ) (is : verticesIn c ≡ m
       let room = n * (m + 1) in
       let t₀ = vec zeros room in
       let long : length t₀ ≡ room = length-replicate room zeros in
-      let round : n * (m + 1) / (m + 1) ≡ n = mul-div-cancel n (omega arith) in
+      let round : quotient outside (n * (m + 1)) (m + 1) ≡ n = quotient-is outside (n * (m + 1)) (m + 1) (omega arith) ∙ mul-div-cancel n (omega arith) in
       rw (long, sized outside c m is h, round) (rings-assigned room (m + 1) n 0 side _ t₀ (omega arith)
       (λ g i hg hi l t. assigned room (g * n + i) (0 + g * n + i) t l (omega arith) (side-is g g i hg refl))
       long

@@ -1,8 +1,8 @@
--- The arrays that the vectors of the source hold, `[f32; 3]` for a point and `[usize; 3]` for a triangle, read and assigned; and differences of
--- `usize`. Definitions only.
+-- The arrays that the vectors of the source hold, `[f32; 3]` for a point and `[usize; 3]` for a triangle, read and assigned; and the
+-- operations on `usize` that may panic. Definitions only.
 use mathlib.Core.Bool.{cond}
 use mathlib.Core.List.{List}
-use Prim.Native.Nat.{ℕ, _-_}
+use Prim.Native.Nat.{ℕ, _-_, _/_, _%_}
 use lib.Dec.{leb}
 use lib.Ieee.{Float, binary32, ofBits}
 use lib.ListN.{getD}
@@ -28,7 +28,7 @@ zeros = xyz zero zero zero
 abbrev pub zeroTriangle : Triangle
 zeroTriangle = triangle 0 0 0
 
--- What a read past a list's end, and a difference below zero, would give. The Rust panics there; of these nothing is known.
+-- What a read past a list's end would give, and a difference below zero or a quotient by zero. The Rust panics there; of these nothing is known.
 pub record Outside : Type 0 where
   pub point : Point
   pub number : ℕ
@@ -37,9 +37,15 @@ pub record Outside : Type 0 where
 abbrev pub read : Outside → List Point → ℕ → Point
 read outside points i = getD points i (outside .point)
 
--- `a - b`
+-- `a - b`, `a / b` and `a % b`
 abbrev pub minus : Outside → ℕ → ℕ → ℕ
 minus outside a b = cond (leb b a) (a - b) (outside .number)
+
+abbrev pub quotient : Outside → ℕ → ℕ → ℕ
+quotient outside a b = cond (leb 1 b) (a / b) (outside .number)
+
+abbrev pub remainder : Outside → ℕ → ℕ → ℕ
+remainder outside a b = cond (leb 1 b) (a % b) (outside .number)
 
 -- `xs[i][0] = v`, `xs[i][1] = v` and `xs[i][2] = v` of points
 abbrev pub assignX : List Point → ℕ → Float → List Point

@@ -2,7 +2,7 @@
 -- with - for _ in a name. Line numbers are the source's; tests/src/del_msh/polyline3.rs has the same text to be run. Definitions only.
 use mathlib.Core.Bool.{true}
 use mathlib.Core.List.{List}
-use Prim.Native.Nat.{ℕ, _+_, _*_, _/_}
+use Prim.Native.Nat.{ℕ, _+_, _*_}
 use lib.Dec.{eqb, ltb}
 use lib.Ieee.{Float, neg}
 use lib.ListN.{length}
@@ -10,7 +10,7 @@ use Rattle.surface.specs.Triangles.{triangle}
 use Rattle.vec3.specs.Points.{times}
 use Rattle.vec3.specs.declared.points.Point.{Point}
 use Rattle.del_msh.specs.Vectors.{vec, assert, assign, if, for, _‥_}
-use Rattle.del_msh.specs.Arrays.{Outside, read, minus, one, zeros, zeroTriangle, assignX, assignY, assignZ}
+use Rattle.del_msh.specs.Arrays.{Outside, read, minus, quotient, one, zeros, zeroTriangle, assignX, assignY, assignZ}
 use Rattle.del_msh.specs.DelGeoCore.{TAU, FRAC-PI-2, mul, div, cos, sin}
 use Rattle.del_msh.specs.DelGeoCore.{add, sub, scale, cross, normalize, basis-xy-from-basis-z, minimum-rotation-matrix, mult-vec}
 use Rattle.del_msh.specs.Trimesh3Primitive.{TriMesh, cylinder-closed-end-yup}
@@ -19,6 +19,10 @@ module _ (outside : Outside) where
   infixl 65 _-_
   abbrev _-_ : ℕ → ℕ → ℕ
   _-_ = minus outside
+
+  infixl 70 _/_
+  abbrev _/_ : ℕ → ℕ → ℕ
+  _/_ = quotient outside
 
   infixl 90 _at_
   abbrev _at_ : List Point → ℕ → Point

@@ -1,13 +1,13 @@
 -- The frames along a closed curve, and the torus, after polyloop3.rs of del-msh (see NOTICE): its functions, names, loops and order, with - for
 -- _ in a name. Line numbers are the source's; tests/src/del_msh/polyloop3.rs has the same text to be run. Definitions only.
 use mathlib.Core.List.{List, []}
-use Prim.Native.Nat.{ℕ, _+_, _*_, _%_}
+use Prim.Native.Nat.{ℕ, _+_, _*_}
 use lib.Ieee.{Float}
 use lib.ListN.{length}
 use Rattle.surface.specs.Triangles.{triangle}
 use Rattle.vec3.specs.declared.points.Point.{Point}
 use Rattle.del_msh.specs.Vectors.{vec, push, assign, for, _‥_}
-use Rattle.del_msh.specs.Arrays.{Outside, read, minus, zeros}
+use Rattle.del_msh.specs.Arrays.{Outside, read, minus, remainder, zeros}
 use Rattle.del_msh.specs.DelGeoCore.{TAU, mul, div, cos, sin}
 use Rattle.del_msh.specs.DelGeoCore.{add, sub, scale, cross, normalize, basis-xy-from-basis-z, minimum-rotation-matrix, mult-vec}
 use Rattle.del_msh.specs.Trimesh3Primitive.{TriMesh}
@@ -16,6 +16,10 @@ module _ (outside : Outside) where
   infixl 65 _-_
   abbrev _-_ : ℕ → ℕ → ℕ
   _-_ = minus outside
+
+  infixl 70 _%_
+  abbrev _%_ : ℕ → ℕ → ℕ
+  _%_ = remainder outside
 
   infixl 90 _at_
   abbrev _at_ : List Point → ℕ → Point

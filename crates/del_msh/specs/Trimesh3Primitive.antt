@@ -3,7 +3,7 @@
 -- Definitions only.
 use mathlib.Core.Bool.{Bool}
 use mathlib.Core.List.{List, []}
-use Prim.Native.Nat.{ℕ, _+_, _*_, _/_, _%_}
+use Prim.Native.Nat.{ℕ, _+_, _*_}
 use lib.Dec.{eqb, leb, ltb}
 use lib.Ieee.{Float, neg}
 use lib.ListN.{length}
@@ -12,7 +12,7 @@ use Rattle.vec3.specs.Points.{plus, times, over}
 use Rattle.vec3.specs.Turns.{whole}
 use Rattle.vec3.specs.declared.points.Point.{Point}
 use Rattle.del_msh.specs.Vectors.{vec, push, assert, assign, if, for, _‥_}
-use Rattle.del_msh.specs.Arrays.{Outside, minus, xyz, zero, one, zeros, assign0, assign1, assign2}
+use Rattle.del_msh.specs.Arrays.{Outside, minus, quotient, remainder, xyz, zero, one, zeros, assign0, assign1, assign2}
 use Rattle.del_msh.specs.DelGeoCore.{TAU, mul, div, cos, sin}
 
 -- `(Vec<[usize; 3]>, Vec<[f32; 3]>)`: triangles and vertices
@@ -30,6 +30,14 @@ module _ (outside : Outside) where
   infixl 65 _-_
   abbrev _-_ : ℕ → ℕ → ℕ
   _-_ = minus outside
+
+  infixl 70 _/_
+  abbrev _/_ : ℕ → ℕ → ℕ
+  _/_ = quotient outside
+
+  infixl 70 _%_
+  abbrev _%_ : ℕ → ℕ → ℕ
+  _%_ = remainder outside
 
   -- line 16
   unfoldable pub cylinder-open-end-set-topology : List Triangle → ℕ → List Triangle

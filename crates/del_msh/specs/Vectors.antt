@@ -1,5 +1,5 @@
 -- What Rust itself means by the lines that build a list: a vector made, assigned and pushed onto, `assert!`, `if` and `for`. A vector or a slice is
--- the list of its elements, a `usize` a natural number. Definitions only.
+-- the list of its elements, a `usize` a natural number (its limit is far above every number of a permitted body). Definitions only.
 use mathlib.Core.Bool.{Bool, cond}
 use mathlib.Core.List.{List, [], _∷_, _++_}
 use Prim.Native.Nat.{ℕ, zero, suc}
