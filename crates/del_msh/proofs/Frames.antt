@@ -40,7 +40,7 @@ module _ (outside : Outside) (chain : Chain) (count : ℕ) (c : List Float) wher
   frame g = frameOf chain count c g .ex
 
   -- the frame of segment i, of a point that the frame before it is
-  abbrev pub carriedOn : ℕ → Point → Point
+  abbrev carriedOn : ℕ → Point → Point
   carriedOn i b = transported (record { ex = b }) (segmentDirection chain count c (i - 1)) (segmentDirection chain count c i) .ex
 
   frame-next : (i : ℕ) → 1 ≤ i → carriedOn i (frame (i - 1)) ≡ frame i

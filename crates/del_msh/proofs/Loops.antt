@@ -14,7 +14,7 @@ use Rattle.del_msh.specs.Vectors.{changed, change, assign, turns}
 
 module _ {ℓ} {S : Type ℓ} where
   -- what holds before a loop, and from each turn to the next, holds behind it
-  pub invariant : (a n : ℕ) (turn : ℕ → S → S) (state : ℕ → S) → a ≤ n
+  invariant : (a n : ℕ) (turn : ℕ → S → S) (state : ℕ → S) → a ≤ n
       → ((i : ℕ) → a ≤ i → i < n → turn i (state i) ≡ state (suc i)) → turns a n turn (state a) ≡ state n
   invariant a zero turn state h each = let e : a ≡ 0 = omega arith in ap state e
   invariant a (suc n) turn state h each =

@@ -58,10 +58,15 @@ module _ (outside : Outside) (c : List Float) (m : ℕ) (is : verticesIn c ≡ m
       let back : m ≡ m - 1 + 1 = omega arith in
       let here : minus outside (suc g) 1 ≡ suc g - 1 = minus-is outside (suc g) 1 (suc g - 1) (omega arith) in
       let within = lt-ltb (suc g) (length curve) (omega arith) in
+      let not-first = ne-eqb (suc g) 0 (λ e. omega arith) in
       ⊎-elim
-      (λ (last : suc g ≡ m). rw (within, ne-eqb (suc g) 0 (λ e. omega arith), eq-eqb (suc g) (minus outside (length curve) 1) (last ∙ sym one-less), eq-eqb (suc g) m last)
-      (λ j. normalised (differenceOf (vertex (minus outside (length curve) 1) (m - 1 + 1) (omega arith) (one-less ∙ back) j) (vertex (minus outside (length curve) 2) (m - 1) (omega arith) two-less j))))
-      (λ (inner : suc g < m). rw (within, ne-eqb (suc g) 0 (λ e. omega arith), ne-eqb (suc g) (minus outside (length curve) 1) (λ e. omega (arith, e ∙ one-less)), ne-eqb (suc g) m (λ e. omega arith))
+      (λ (last : suc g ≡ m).
+      rw (within, not-first, eq-eqb (suc g) (minus outside (length curve) 1) (last ∙ sym one-less), eq-eqb (suc g) m last)
+      (λ j. normalised (differenceOf
+      (vertex (minus outside (length curve) 1) (m - 1 + 1) (omega arith) (one-less ∙ back) j)
+      (vertex (minus outside (length curve) 2) (m - 1) (omega arith) two-less j))))
+      (λ (inner : suc g < m).
+      rw (within, not-first, ne-eqb (suc g) (minus outside (length curve) 1) (λ e. omega (arith, e ∙ one-less)), ne-eqb (suc g) m (λ e. omega arith))
       (λ j. normalised (sumOf
       (normalised (differenceOf (vertex (suc g) (suc g - 1 + 1) (omega arith) (omega arith) j) (vertex (minus outside (suc g) 1) (suc g - 1) (omega arith) here j)))
       (normalised (differenceOf (vertex (suc g + 1) (suc g + 1) (omega arith) refl j) (vertex (suc g) (suc g) l refl j))))))
@@ -88,12 +93,13 @@ module _ (outside : Outside) (c : List Float) (m : ℕ) (is : verticesIn c ≡ m
       let long : length t₀ ≡ room = length-replicate room zeros in
       behind room m (pointsOf m ex) (ex m ∷ []) t₀ long
       (assigned room m m t (omega arith) refl (ap (read outside t) same ∙ written-at outside m (frame outside Open m c) t₀ (m - 1) (omega arith) (omega arith) is ∙ ex-last))
-      (is ∙ ap (λ (l : List Point). overwrite 0 l t₀) (blocks-cong m (λ g. frame outside Open m c g ∷ []) (λ g. ex g ∷ []) (λ g l. ap (λ (p : Point). p ∷ []) (ex-within g l))))
+      (is ∙ ap (λ (l : List Point). overwrite 0 l t₀) (blocks-cong m (λ g. frame outside Open m c g ∷ []) (λ g. ex g ∷ [])
+      (λ g l. ap (λ (p : Point). p ∷ []) (ex-within g l))))
       (length-points m ex)
       ∙ ap (λ (k : ℕ). overwrite 0 (pointsOf k ex) t₀) (sym (add-one m))
       ∙ overwrite-all (pointsOf (m + 1) ex) t₀ (omega (arith, length-points (m + 1) ex))
 
-  pub framex-is : rust.vtx2framex outside curve ≡ pointsOf (m + 1) ex
+  framex-is : rust.vtx2framex outside curve ≡ pointsOf (m + 1) ex
   unfolding rust.vtx2framex frameOf segmentDirection segmentOf
   framex-is =
       let last : minus outside (m + 1) 1 ≡ m = minus-is outside (m + 1) 1 m refl in

@@ -24,7 +24,7 @@ pub whole-turn : (i n : ℕ) → turnOf (1 * i) (1 * n) ≡ turnOf i n
 whole-turn i n = λ j. turnOf (one-mul i j) (one-mul n j)
 
 -- a ring of n points, and k of them
-abbrev pub ringPoints : (Direction → Point) → ℕ → List Point
+abbrev ringPoints : (Direction → Point) → ℕ → List Point
 ringPoints vertex n = blocks n (λ i. vertex (turnOf i n) ∷ [])
 
 abbrev pub ringsPoints : ℕ → (ℕ → Direction → Point) → ℕ → List Point

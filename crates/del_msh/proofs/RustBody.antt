@@ -46,7 +46,8 @@ rust-body outside (Capsule n L r) c (three, two, steps) =
     λ j. (capsule-triangles outside c m is (omega arith) r n L three steps j, capsule-floats outside c m is (omega arith) r n L three steps j)
 rust-body outside (Torus n r) c two =
     λ j. (torus-triangles outside c (verticesIn c) refl two r n j, torus-floats outside c (verticesIn c) refl two r n j)
-rust-body outside (ClosedCylinder n S centred r l) c (three, some) = λ j. (yup-triangles outside r l n S centred three some j, yup-floats outside r l n S centred three some j)
+rust-body outside (ClosedCylinder n S centred r l) c (three, some) =
+    λ j. (yup-triangles outside r l n S centred three some j, yup-floats outside r l n S centred three some j)
 
 -- what 10, 20 and 21 permit has all that the Rust asks
 permitted-asked : (d : Description) (N : ℕ) → ShapePermitted d N → Asked d N

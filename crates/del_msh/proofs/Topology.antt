@@ -19,7 +19,7 @@ use Rattle.del_msh.proofs.Usize.{minus-is, quotient-is, remainder-is}
 use Rattle.del_msh.proofs.Loops.{assigned-by-three, fills, pushes}
 
 -- a triangle, and the two of a quad, pushed under other names of their indices
-pub triangle-pushed : (t : List Triangle) {a b c a′ b′ c′ : ℕ} → a ≡ a′ → b ≡ b′ → c ≡ c′ → t ++ (triangle a b c ∷ []) ≡ t ++ (triangle a′ b′ c′ ∷ [])
+triangle-pushed : (t : List Triangle) {a b c a′ b′ c′ : ℕ} → a ≡ a′ → b ≡ b′ → c ≡ c′ → t ++ (triangle a b c ∷ []) ≡ t ++ (triangle a′ b′ c′ ∷ [])
 triangle-pushed t p q r = λ j. t ++ (triangle (p j) (q j) (r j) ∷ [])
 
 pub quad-pushed : (t : List Triangle) {a b c d e f a′ b′ c′ d′ e′ f′ : ℕ} → a ≡ a′ → b ≡ b′ → c ≡ c′ → d ≡ d′ → e ≡ e′ → f ≡ f′
