@@ -1,0 +1,14 @@
+pub mod Loops
+pub mod Floats
+pub mod Usize
+pub mod Rings
+pub mod Topology
+pub mod ClosedCylinder
+pub mod Curve
+pub mod Frames
+pub mod OpenFrames
+pub mod Ribbon
+pub mod Tube
+pub mod Capsule
+pub mod Torus
+pub mod RustBody
