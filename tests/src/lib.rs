@@ -7,6 +7,7 @@ pub mod bodies;
 pub mod buffers;
 pub mod cases;
 pub mod census;
+pub mod comparison;
 pub mod curves;
 pub mod del_msh;
 pub mod edges;

@@ -1,0 +1,115 @@
+//! What a list is made of: lent buffers that hold anything, and additions.
+
+use crate::{
+    additions,
+    buffers::{Buffers, Lengths},
+    generator::Generator,
+    paper::description::Input,
+};
+
+pub struct Drawn {
+    pub lent: Buffers,
+    pub additions: Vec<Input>,
+}
+
+pub fn list(generator: &mut Generator) -> Drawn {
+    match generator.between(0, 7) {
+        0 | 1 => fitted(generator),
+        2 => many(generator),
+        _ => any(generator),
+    }
+}
+
+fn any(generator: &mut Generator) -> Drawn {
+    let length = generator.between(0, 60);
+    let additions = (0..length).map(|_| addition(generator)).collect();
+    let lengths = lengths(generator);
+    let lent = additions::holding_anything(generator, lengths);
+    Drawn { lent, additions }
+}
+
+fn addition(generator: &mut Generator) -> Input {
+    let mut input = additions::addition(generator);
+    if generator.one_in(50) {
+        input.fields.kind = generator.one_of(&additions::UNKNOWN_KINDS);
+    }
+    input
+}
+
+/// Mostly some thousand elements and a table of 64 bodies, at times less, and rarely much more.
+fn lengths(generator: &mut Generator) -> Lengths {
+    let scale = match generator.between(0, 63) {
+        0 => 10,
+        1..=8 => 0,
+        _ => 1,
+    };
+    Lengths {
+        table: match generator.between(0, 7) {
+            0 => generator.one_of(&additions::TABLES),
+            _ => generator.between(385, 400) as usize,
+        },
+        vertices: (generator.between(0, 1_000) + scale * generator.between(0, 6_000)) as usize,
+        triangles: (generator.between(0, 2_000) + scale * generator.between(0, 10_000)) as usize,
+    }
+}
+
+/// More small bodies than there are entries, and in one of two cases room for them.
+fn many(generator: &mut Generator) -> Drawn {
+    let additions: Vec<Input> = (0..70)
+        .map(|_| additions::small_of_any_kind(generator))
+        .collect();
+    let mut lengths = lengths(generator);
+    if generator.one_in(2) {
+        let all = taken(&additions);
+        lengths.vertices = all.vertices;
+        lengths.triangles = all.triangles;
+    }
+    let lent = additions::holding_anything(generator, lengths);
+    Drawn { lent, additions }
+}
+
+/// Small bodies that fit exactly into buffers, or into buffers of which one is an element short; then any additions.
+fn fitted(generator: &mut Generator) -> Drawn {
+    let count = generator.between(1, 20);
+    let mut additions: Vec<Input> = (0..count)
+        .map(|_| additions::small_of_any_kind(generator))
+        .collect();
+    let mut lengths = taken(&additions);
+    let mut spare = || generator.one_of(&[0, 0, 1, 2, 6, 500]);
+    match spare() {
+        0 => lengths.table += spare(),
+        1 => lengths.table -= 1,
+        _ => lengths.table = 385,
+    }
+    match spare() {
+        0 => lengths.vertices += spare(),
+        1 => lengths.vertices -= 1,
+        _ => lengths.vertices += 1_000,
+    }
+    match spare() {
+        0 => lengths.triangles += spare(),
+        1 => lengths.triangles -= 1,
+        _ => lengths.triangles += 2_000,
+    }
+    let more = generator.between(0, 5);
+    additions.extend((0..more).map(|_| addition(generator)));
+    let lent = additions::holding_anything(generator, lengths);
+    Drawn { lent, additions }
+}
+
+/// What a set of these bodies takes up, each of which is accepted.
+fn taken(additions: &[Input]) -> Lengths {
+    let mut taken = Lengths {
+        table: 1,
+        vertices: 0,
+        triangles: 0,
+    };
+    for input in additions {
+        let counts = input.description().counts(input.curve.len() / 3);
+        let [vertices, triangles] = counts.expect("an accepted body");
+        taken.table += 6;
+        taken.vertices += 3 * vertices as usize;
+        taken.triangles += 3 * triangles as usize;
+    }
+    taken
+}
