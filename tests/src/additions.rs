@@ -123,6 +123,23 @@ pub fn small_of_any_kind(generator: &mut Generator) -> Input {
     small(generator, kind)
 }
 
+/// What a set of these bodies takes up, each of which is accepted.
+pub fn taken(additions: &[Input]) -> Lengths {
+    let mut taken = Lengths {
+        table: 1,
+        vertices: 0,
+        triangles: 0,
+    };
+    for input in additions {
+        let counts = input.description().counts(input.curve.len() / 3);
+        let [vertices, triangles] = counts.expect("an accepted body");
+        taken.table += 6;
+        taken.vertices += 3 * vertices as usize;
+        taken.triangles += 3 * triangles as usize;
+    }
+    taken
+}
+
 /// Many divisions, longitudes or layers.
 fn large(generator: &mut Generator) -> Input {
     let mut input = small_of_any_kind(generator);

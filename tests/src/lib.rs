@@ -25,3 +25,4 @@ pub mod special_curves;
 pub mod sweep;
 pub mod tables;
 pub mod topology;
+pub mod worked_additions;

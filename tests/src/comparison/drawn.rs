@@ -60,7 +60,7 @@ fn many(generator: &mut Generator) -> Drawn {
         .collect();
     let mut lengths = lengths(generator);
     if generator.one_in(2) {
-        let all = taken(&additions);
+        let all = additions::taken(&additions);
         lengths.vertices = all.vertices;
         lengths.triangles = all.triangles;
     }
@@ -74,7 +74,7 @@ fn fitted(generator: &mut Generator) -> Drawn {
     let mut additions: Vec<Input> = (0..count)
         .map(|_| additions::small_of_any_kind(generator))
         .collect();
-    let mut lengths = taken(&additions);
+    let mut lengths = additions::taken(&additions);
     let mut spare = || generator.one_of(&[0, 0, 1, 2, 6, 500]);
     match spare() {
         0 => lengths.table += spare(),
@@ -95,21 +95,4 @@ fn fitted(generator: &mut Generator) -> Drawn {
     additions.extend((0..more).map(|_| addition(generator)));
     let lent = additions::holding_anything(generator, lengths);
     Drawn { lent, additions }
-}
-
-/// What a set of these bodies takes up, each of which is accepted.
-fn taken(additions: &[Input]) -> Lengths {
-    let mut taken = Lengths {
-        table: 1,
-        vertices: 0,
-        triangles: 0,
-    };
-    for input in additions {
-        let counts = input.description().counts(input.curve.len() / 3);
-        let [vertices, triangles] = counts.expect("an accepted body");
-        taken.table += 6;
-        taken.vertices += 3 * vertices as usize;
-        taken.triangles += 3 * triangles as usize;
-    }
-    taken
 }
