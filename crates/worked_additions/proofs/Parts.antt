@@ -37,12 +37,12 @@ module _ (words : List ℕ) (s : Buffers) {front table : List ℕ} {e c i : ℕ}
   entries-put : e ≡ min (getD words 0 0) (length (overwrite (getD words 3 0) (getD words 4 0 ∷ []) (s .table)))
   entries-put = entries ∙ ap (λ (t : List ℕ). min (getD words 0 0) (length t)) put
 
-  pub step-answers : partsAnswer front (lentParts e c i now) ≡ stepAnswer words s
+  pub step-answers : {r : ℕ} → r ≡ partsAnswer front (lentParts e c i now) → r ≡ stepAnswer words s
   unfolding stepAnswer
-  step-answers = λ j. partsAnswer (behind j) (lentParts (entries-put j) (coordinates j) (indices j) (buffers (put j) (s .vertices) (s .triangles)))
+  step-answers told = told ∙ λ j. partsAnswer (behind j) (lentParts (entries-put j) (coordinates j) (indices j) (buffers (put j) (s .vertices) (s .triangles)))
 
-  pub step-leaves : partsBack front (lentParts e c i now) now ≡ stepped words s
+  pub step-leaves : {left : Buffers} → left ≡ partsBack front (lentParts e c i now) now → left ≡ stepped words s
   unfolding stepped
-  step-leaves =
+  step-leaves told = told ∙
       λ j. let held = buffers (put j) (s .vertices) (s .triangles) in
       partsBack (behind j) (lentParts (entries-put j) (coordinates j) (indices j) held) held

@@ -68,31 +68,30 @@ fn many(generator: &mut Generator) -> Drawn {
     Drawn { lent, additions }
 }
 
-/// Small bodies that fit exactly into buffers, or into buffers of which one is an element short; then any additions.
+/// Small bodies, and buffers of exactly their size, of one element less or of more; then any additions.
 fn fitted(generator: &mut Generator) -> Drawn {
     let count = generator.between(1, 20);
     let mut additions: Vec<Input> = (0..count)
         .map(|_| additions::small_of_any_kind(generator))
         .collect();
-    let mut lengths = additions::taken(&additions);
-    let mut spare = || generator.one_of(&[0, 0, 1, 2, 6, 500]);
-    match spare() {
-        0 => lengths.table += spare(),
-        1 => lengths.table -= 1,
-        _ => lengths.table = 385,
-    }
-    match spare() {
-        0 => lengths.vertices += spare(),
-        1 => lengths.vertices -= 1,
-        _ => lengths.vertices += 1_000,
-    }
-    match spare() {
-        0 => lengths.triangles += spare(),
-        1 => lengths.triangles -= 1,
-        _ => lengths.triangles += 2_000,
-    }
+    let exact = additions::taken(&additions);
+    let lengths = Lengths {
+        table: next_to(generator, exact.table, 60),
+        vertices: next_to(generator, exact.vertices, 1_000),
+        triangles: next_to(generator, exact.triangles, 2_000),
+    };
     let more = generator.between(0, 5);
     additions.extend((0..more).map(|_| addition(generator)));
     let lent = additions::holding_anything(generator, lengths);
     Drawn { lent, additions }
+}
+
+/// Exactly as much, one element less, or more by a few or by up to `most`.
+fn next_to(generator: &mut Generator, exact: usize, most: u32) -> usize {
+    match generator.between(0, 5) {
+        0 | 1 => exact,
+        2 => exact - 1,
+        3 => exact + generator.between(1, 6) as usize,
+        _ => exact + generator.between(0, most) as usize,
+    }
 }

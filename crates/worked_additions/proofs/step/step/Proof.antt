@@ -1,5 +1,4 @@
 -- The word is put, the fronts are lent, and the record behind the head is added. Assumes nothing.
-use mathlib.Core.Path.{_≡_, _∙_}
 use borrow.Rule.Slice.PartAt.{part-to-end}
 use denote.Ref.{now}
 use Rattle.set_table.specs.Buffers.{buffers}
@@ -72,8 +71,8 @@ returns c =
     let e = first .at-most .ensures .1 in
     let x = second .at-most2 .ensures .1 in
     let i = third .at-most3 .ensures .1 in (
-      lent .add-lent .ensures .0 ∙ step-answers words s (part-to-end words 5) (put .put-word .ensures) e x i,
-      lent .add-lent .ensures .1 ∙ step-leaves words s (part-to-end words 5) (put .put-word .ensures) e x i,
+      step-answers words s (part-to-end words 5) (put .put-word .ensures) e x i (lent .add-lent .ensures .0),
+      step-leaves words s (part-to-end words 5) (put .put-word .ensures) e x i (lent .add-lent .ensures .1),
     )
 
 pub step-spec : {M : Type 1} → statement M
