@@ -6,6 +6,11 @@ mod garbage;
 mod replay;
 mod step;
 
+ghost use mathlib.Core.Path.{_≡_};
+ghost use Rattle.set_table.specs.Buffers.{buffers};
+ghost use Rattle.hex_lines.specs.Put.{Put};
+ghost use Rattle.worked_additions.specs.Garbage.{begun};
+ghost use Rattle.worked_additions.specs.Steps.{textOf};
 use crate::garbage::fill_floats;
 use crate::garbage::fill_words;
 use crate::replay::replay;
@@ -21,11 +26,30 @@ const TRIANGLES: usize = 4800;
 // Room for the words of the input.
 const WORDS: usize = 16384;
 
-fn prepare(table: &mut [u32], vertices: &mut [f32], triangles: &mut [u32]) {
+// Fills the buffers and clears the table.
+fn prepare(table: &mut [u32], vertices: &mut [f32], triangles: &mut [u32])
+    ensures { λ _. ⌜ buffers (now (table .exit)) (now (vertices .exit)) (now (triangles .exit))
+        ≡ begun (buffers (now (table .entry)) (now (vertices .entry)) (now (triangles .entry))) ⌝ }
+{
     fill_words(1, table);
     fill_floats(2, vertices);
     fill_words(3, triangles);
     shared_set::clear(table);
+}
+
+// Puts the lines of all steps, and answers where they end.
+fn put_lines(
+    words: &[u32],
+    table: &mut [u32],
+    vertices: &mut [f32],
+    triangles: &mut [u32],
+    out: &mut [u8],
+) -> usize
+    ensures { λ r. let s = begun (buffers (now (table .entry)) (now (vertices .entry)) (now (triangles .entry))) in
+        ⌜ Put (textOf (now (words .entry)) s) 0 (now (out .entry)) r (now (out .exit)) ⌝ }
+{
+    prepare(table, vertices, triangles);
+    replay(words, table, vertices, triangles, out)
 }
 
 fn main() {
@@ -35,11 +59,10 @@ fn main() {
     let mut vertices = [0f32; VERTICES];
     let mut triangles = [0u32; TRIANGLES];
     let mut text = io::large_buffer();
-    prepare(&mut table, &mut vertices, &mut triangles);
     let count = io::read_full(0, &mut bytes);
     read_words(&bytes[..count], &mut words);
     let whole = count / 4;
-    let end = replay(
+    let end = put_lines(
         &words[..whole],
         &mut table,
         &mut vertices,

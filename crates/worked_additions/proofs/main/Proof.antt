@@ -11,18 +11,6 @@ large-buffer-requires c κs = search needs
 large-buffer-requires-2 : tie.Need-large-buffer-requires-2
 large-buffer-requires-2 c κs = search needs
 
-slice-aggregate-prepare : tie.Need-slice-aggregate-prepare
-slice-aggregate-prepare c = search needs
-
-slice-aggregate-prepare-2 : tie.Need-slice-aggregate-prepare-2
-slice-aggregate-prepare-2 c = search needs
-
-slice-aggregate-prepare-3 : tie.Need-slice-aggregate-prepare-3
-slice-aggregate-prepare-3 c = search needs
-
-prepare-requires : tie.Need-prepare-requires
-prepare-requires c κs = search needs
-
 slice-aggregate-read-full : tie.Need-slice-aggregate-read-full
 slice-aggregate-read-full c = search needs
 
@@ -44,23 +32,23 @@ read-words-requires c κs = search needs
 array-share-prefix-words : tie.Need-array-share-prefix-words
 array-share-prefix-words c = search needs
 
-slice-aggregate-replay : tie.Need-slice-aggregate-replay
-slice-aggregate-replay c = simp length-take (omega arith)
+slice-aggregate-put-lines : tie.Need-slice-aggregate-put-lines
+slice-aggregate-put-lines c = simp length-take (omega arith)
 
-slice-aggregate-replay-2 : tie.Need-slice-aggregate-replay-2
-slice-aggregate-replay-2 c = search needs
+slice-aggregate-put-lines-2 : tie.Need-slice-aggregate-put-lines-2
+slice-aggregate-put-lines-2 c = search needs
 
-slice-aggregate-replay-3 : tie.Need-slice-aggregate-replay-3
-slice-aggregate-replay-3 c = search needs
+slice-aggregate-put-lines-3 : tie.Need-slice-aggregate-put-lines-3
+slice-aggregate-put-lines-3 c = search needs
 
-slice-aggregate-replay-4 : tie.Need-slice-aggregate-replay-4
-slice-aggregate-replay-4 c = search needs
+slice-aggregate-put-lines-4 : tie.Need-slice-aggregate-put-lines-4
+slice-aggregate-put-lines-4 c = search needs
 
-slice-aggregate-replay-5 : tie.Need-slice-aggregate-replay-5
-slice-aggregate-replay-5 c = search needs
+slice-aggregate-put-lines-5 : tie.Need-slice-aggregate-put-lines-5
+slice-aggregate-put-lines-5 c = search needs
 
-replay-requires : tie.Need-replay-requires
-replay-requires c κs = search needs
+put-lines-requires : tie.Need-put-lines-requires
+put-lines-requires c κs = search needs
 
 array-share-prefix-text : tie.Need-array-share-prefix-text
 array-share-prefix-text c = search needs
@@ -80,10 +68,6 @@ main-spec =
     (tie.spec
     large-buffer-requires
     large-buffer-requires-2
-    slice-aggregate-prepare
-    slice-aggregate-prepare-2
-    slice-aggregate-prepare-3
-    prepare-requires
     slice-aggregate-read-full
     read-full-requires
     array-share-prefix-bytes
@@ -91,12 +75,12 @@ main-spec =
     slice-aggregate-read-words-2
     read-words-requires
     array-share-prefix-words
-    slice-aggregate-replay
-    slice-aggregate-replay-2
-    slice-aggregate-replay-3
-    slice-aggregate-replay-4
-    slice-aggregate-replay-5
-    replay-requires
+    slice-aggregate-put-lines
+    slice-aggregate-put-lines-2
+    slice-aggregate-put-lines-3
+    slice-aggregate-put-lines-4
+    slice-aggregate-put-lines-5
+    put-lines-requires
     array-share-prefix-text
     slice-aggregate-write-all
     write-all-requires
