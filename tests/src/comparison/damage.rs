@@ -79,7 +79,7 @@ fn damage(generator: &mut Generator, sort: Sort, set: &mut Buffers) -> bool {
     true
 }
 
-/// Entries of bodies without a vertex, which nothing else is wrong with, and one of two numbers that has them.
+/// Sound entries of 70 bodies, and a number above 64: in one of two cases one that all entries are there for.
 fn too_many_bodies(generator: &mut Generator, table: &mut Vec<u32>) {
     let bodies = table[0] as usize;
     table.truncate(1 + 6 * bodies);
