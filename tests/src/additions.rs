@@ -43,11 +43,15 @@ pub fn list(generator: &mut Generator) -> Vec<Input> {
 }
 
 /// For no body, for a few, and next to the 385 words of 64.
-const TABLES: [usize; 12] = [1, 6, 7, 13, 31, 100, 384, 385, 385, 386, 391, 400];
+pub const TABLES: [usize; 12] = [1, 6, 7, 13, 31, 100, 384, 385, 385, 386, 391, 400];
 
-/// Lent buffers that hold anything, and in one of two cases a table of contents, as far as there is room for it.
 pub fn lent(generator: &mut Generator) -> Buffers {
     let lengths = lengths(generator);
+    holding_anything(generator, lengths)
+}
+
+/// Lent buffers that hold anything, and in one of two cases a table of contents, as far as there is room for it.
+pub fn holding_anything(generator: &mut Generator, lengths: Lengths) -> Buffers {
     let mut lent = Buffers::garbage(generator, lengths);
     if generator.one_in(2) {
         let bodies = generator.between(0, 64) as usize;
@@ -71,6 +75,9 @@ pub fn lengths(generator: &mut Generator) -> Lengths {
         triangles,
     }
 }
+
+/// Kinds that are none of the paper's, some of which are one once they are cut to 8 or 16 bits.
+pub const UNKNOWN_KINDS: [u32; 7] = [0, 6, 7, 257, 65_538, 1 << 31, u32::MAX];
 
 pub fn addition(generator: &mut Generator) -> Input {
     match generator.one_of(&AIMS) {
@@ -111,9 +118,26 @@ pub fn small(generator: &mut Generator, kind: u32) -> Input {
     }
 }
 
-fn small_of_any_kind(generator: &mut Generator) -> Input {
+pub fn small_of_any_kind(generator: &mut Generator) -> Input {
     let kind = generator.between(1, 5);
     small(generator, kind)
+}
+
+/// What a set of these bodies takes up, each of which is accepted.
+pub fn taken(additions: &[Input]) -> Lengths {
+    let mut taken = Lengths {
+        table: 1,
+        vertices: 0,
+        triangles: 0,
+    };
+    for input in additions {
+        let counts = input.description().counts(input.curve.len() / 3);
+        let [vertices, triangles] = counts.expect("an accepted body");
+        taken.table += 6;
+        taken.vertices += 3 * vertices as usize;
+        taken.triangles += 3 * triangles as usize;
+    }
+    taken
 }
 
 /// Many divisions, longitudes or layers.

@@ -10,6 +10,12 @@ pub struct Lengths {
     pub triangles: usize,
 }
 
+impl Lengths {
+    pub fn total(self) -> usize {
+        self.table + self.vertices + self.triangles
+    }
+}
+
 #[derive(Clone, Debug)]
 pub struct Buffers {
     pub table: Vec<u32>,
@@ -38,9 +44,12 @@ impl Buffers {
 
     /// Every element bit for bit, since untouched memory keeps the very bits of a NaN.
     pub fn is_same(&self, other: &Buffers) -> bool {
-        let bits = |buffers: &Buffers| -> Vec<u32> {
-            buffers.vertices.iter().map(|x| x.to_bits()).collect()
-        };
-        self.table == other.table && self.triangles == other.triangles && bits(self) == bits(other)
+        self.table == other.table
+            && self.triangles == other.triangles
+            && self.bits().eq(other.bits())
+    }
+
+    fn bits(&self) -> impl Iterator<Item = u32> + '_ {
+        self.vertices.iter().map(|x| x.to_bits())
     }
 }

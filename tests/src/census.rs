@@ -31,8 +31,28 @@ impl Census {
         values.iter().for_each(|&x| self.count(x));
     }
 
+    pub fn merge(&mut self, other: &Census) {
+        self.floats += other.floats;
+        self.plus_zeros += other.plus_zeros;
+        self.minus_zeros += other.minus_zeros;
+        self.subnormals += other.subnormals;
+        self.large += other.large;
+        self.infinities += other.infinities;
+        self.nans += other.nans;
+    }
+
     pub fn floats(&self) -> u64 {
         self.floats
+    }
+
+    /// How many are +0, -0, subnormal, and finite above 2^40.
+    pub fn unusual(&self) -> [u64; 4] {
+        [
+            self.plus_zeros,
+            self.minus_zeros,
+            self.subnormals,
+            self.large,
+        ]
     }
 
     pub fn has_minus_zeros(&self) -> bool {

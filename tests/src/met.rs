@@ -10,6 +10,20 @@ impl Met {
         *self.0.entry(answer).or_default() += 1;
     }
 
+    pub fn times(&self, answer: u32) -> u64 {
+        self.0.get(&answer).copied().unwrap_or_default()
+    }
+
+    pub fn total(&self) -> u64 {
+        self.0.values().sum()
+    }
+
+    pub fn merge(&mut self, other: &Met) {
+        for (&answer, times) in &other.0 {
+            *self.0.entry(answer).or_default() += times;
+        }
+    }
+
     /// The answers that were met, in ascending order.
     pub fn answers(&self) -> Vec<u32> {
         self.0.keys().copied().collect()
@@ -20,12 +34,7 @@ impl Met {
 impl fmt::Display for Met {
     fn fmt(&self, f: &mut fmt::Formatter) -> fmt::Result {
         let texts: Vec<String> = self.0.iter().map(text).collect();
-        write!(
-            f,
-            "{} compared: {}",
-            self.0.values().sum::<u64>(),
-            texts.join(", ")
-        )
+        write!(f, "{} compared: {}", self.total(), texts.join(", "))
     }
 }
 

@@ -1,7 +1,7 @@
 //! The two readings of document 01's shared set beside each other: calls on lent buffers, and the ledger.
 
 use crate::{
-    buffers::Buffers,
+    buffers::{Buffers, Lengths},
     library::UNKNOWN_KIND,
     paper::{
         description::{number, Description, Input},
@@ -49,6 +49,15 @@ impl Readings {
             assert_eq!(answer, ledger, "calls and ledger: {input:?}");
         }
         answer
+    }
+
+    /// The elements of each buffer that the set takes up.
+    pub fn taken(&self) -> Lengths {
+        Lengths {
+            table: 1 + 6 * self.ledger.body_count(),
+            vertices: 3 * self.ledger.vertex_total(),
+            triangles: 3 * self.ledger.triangle_total(),
+        }
     }
 
     /// What the buffers hold by both.

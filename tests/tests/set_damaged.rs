@@ -2,13 +2,11 @@
 //! clear beside the reading, untouched elements compared too.
 
 use togbefulo_tests::{
-    additions,
     buffers::{Buffers, Lengths},
+    comparison::calls,
     generator::Generator,
-    library,
     met::Met,
-    paper::{description::number, set},
-    readings, tables,
+    tables,
 };
 
 /// Calls on copies of the same buffers, and how often each number was answered.
@@ -26,40 +24,12 @@ impl Comparison {
 
     /// All three calls on what the buffers hold; add's answer.
     fn compare(&mut self, lent: &Buffers) -> u32 {
-        let kind = self.generator.between(1, 5);
-        let input = additions::small(&mut self.generator, kind);
-        let [mut proved, mut read] = [lent.clone(), lent.clone()];
-        let answer = library::add(&input, &mut proved);
-        assert_eq!(answer, readings::add(&input, &mut read), "{:?}", lent.table);
-        assert!(proved.is_same(&read), "answered {answer}: {:?}", lent.table);
-        self.met.count(answer);
-        for place in [0, 3, 4, 50, usize::MAX] {
-            self.compare_file_word(lent, place);
-        }
-        compare_clear(&lent.table);
-        answer
-    }
-
-    fn compare_file_word(&mut self, lent: &Buffers, place: usize) {
-        let before = self.generator.word();
-        let mut word = [before];
-        let answer = library::file_word(lent, place, &mut word);
-        let read = set::file_word(&lent.table, &lent.vertices, &lent.triangles, place);
-        assert_eq!(word[0], read.unwrap_or(before), "word {place}");
-        assert_eq!(answer, number(read.map(drop)), "word {place}");
-        self.met.count(answer);
+        calls::compare(&mut self.generator, lent, &mut self.met)
     }
 
     fn expect_damaged(&mut self, lent: &Buffers) {
         assert_eq!(self.compare(lent), 1, "{:?}", lent.lengths());
     }
-}
-
-/// Only an empty table is refused; of others word 0 alone changes.
-fn compare_clear(table: &[u32]) {
-    let [mut proved, mut read] = [table.to_vec(), table.to_vec()];
-    assert_eq!(library::clear(&mut proved), number(set::clear(&mut read)));
-    assert_eq!(proved, read);
 }
 
 const SPARE: Lengths = Lengths {

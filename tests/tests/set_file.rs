@@ -4,41 +4,12 @@ use togbefulo_tests::{
     additions,
     arithmetic::word,
     buffers::{Buffers, Lengths},
+    comparison::files,
     generator::Generator,
     library,
     met::Met,
-    paper::set,
     readings, tables,
 };
-
-/// Every place of the file of an undamaged set, then places from its end on.
-fn compare(generator: &mut Generator, met: &mut Met, lent: &Buffers) {
-    let file = set::file(&lent.table, &lent.vertices, &lent.triangles);
-    let file = file.expect("an undamaged set");
-    let end = file.len();
-    let past = [
-        end,
-        end + 1,
-        end + 4,
-        2 * end,
-        1 << 32,
-        usize::MAX / 4,
-        usize::MAX,
-    ];
-    for place in (0..end).chain(past) {
-        let before = generator.word();
-        let mut given = [before];
-        let answer = library::file_word(lent, place, &mut given);
-        let expected = match file.get(place) {
-            Some(&word) => (0, word),
-            None => (5, before),
-        };
-        assert_eq!((answer, given[0]), expected, "word {place} of {end}");
-        let again = set::file_word(&lent.table, &lent.vertices, &lent.triangles, place);
-        assert_eq!(again.ok(), file.get(place).copied(), "read: word {place}");
-        met.count(answer);
-    }
-}
 
 #[test]
 fn files_of_sets() {
@@ -51,7 +22,7 @@ fn files_of_sets() {
         for input in additions::list(&mut generator) {
             readings::add(&input, &mut lent);
         }
-        compare(&mut generator, &mut met, &lent);
+        files::compare_whole(&mut generator, &lent, &mut met);
     }
     println!("words of the files of {sets} sets, {met}");
     assert_eq!(met.answers(), [0, 5]);
@@ -73,7 +44,7 @@ fn files_of_anything() {
             };
             let lent = tables::over_garbage(&mut generator, &rows, spare);
             nans += lent.vertices.iter().filter(|x| x.is_nan()).count();
-            compare(&mut generator, &mut met, &lent);
+            files::compare_whole(&mut generator, &lent, &mut met);
         }
     }
     println!("words of the files of any buffers, {met}; {nans} NaNs");

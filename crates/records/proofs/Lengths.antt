@@ -78,7 +78,7 @@ same-alone words = by (beginsWithRecord words) refl where
       let none : n ≡ 0 = ap (λ (b : Bool). cond b (headWords + 3 * verticesNamed words) 0) e in
       ap (λ (k : ℕ). recordWords (take k words)) none ∙ sym none
 
-record-fits : (words : List ℕ) → recordWords words ≤ length words
+pub record-fits : (words : List ℕ) → recordWords words ≤ length words
 record-fits words = by (beginsWithRecord words) refl where
   by : (b : Bool) → beginsWithRecord words ≡ b → recordWords words ≤ length words
   by true e = omega (arith, record-length words e, whole words e .coordinates)

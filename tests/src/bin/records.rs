@@ -4,16 +4,15 @@ use std::{
     env,
     io::{stdout, Error, Result, Write},
 };
-use togbefulo_tests::record_files::FILES;
+use togbefulo_tests::record_files::{self, FILES};
 
 fn main() -> Result<()> {
     let name = env::args().nth(1).unwrap_or_default();
-    let known = FILES.iter().find(|(known, _)| *known == name);
-    let Some((_, file)) = known else {
+    let Some(file) = record_files::file(&name) else {
         let names = FILES.map(|(name, _)| name).join(", ");
         return Err(Error::other(format!("give one of {names}")));
     };
     let mut output = stdout();
-    output.write_all(&file())?;
+    output.write_all(&file)?;
     output.flush()
 }

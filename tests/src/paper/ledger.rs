@@ -88,6 +88,10 @@ impl Ledger {
         Ok(())
     }
 
+    pub fn body_count(&self) -> usize {
+        self.entries.len()
+    }
+
     pub fn vertex_total(&self) -> usize {
         let counts = self.entries.iter().map(|entry| entry.alone.vertices.len());
         counts.sum()

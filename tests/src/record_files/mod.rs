@@ -36,6 +36,12 @@ pub const FILES: [RecordFile; 11] = [
     ("unknown_513", ends::long_curve_of_unknown_kind),
 ];
 
+/// The bytes of the file with this name.
+pub fn file(name: &str) -> Option<Vec<u8>> {
+    let known = FILES.iter().find(|(known, _)| *known == name);
+    known.map(|(_, file)| file())
+}
+
 /// Where the file of this name is stored: its records, and what `sweep` makes of them.
 pub fn stored(name: &str) -> [PathBuf; 2] {
     let tests = Path::new(env!("CARGO_MANIFEST_DIR"));
