@@ -1,0 +1,73 @@
+//! The frame carried along a curve. What of a step does not depend on the frame before is worked out for four
+//! vertices at a time.
+
+use super::{
+    directions::Directions,
+    four::{crosses, dots, normalised, sums, transposed, Four},
+};
+use crate::arithmetic::{first_frame, Point};
+
+/// A curve vertex's axes along and across it; the third is their cross product.
+#[derive(Clone, Copy)]
+pub struct Axes {
+    pub x: Four,
+    pub z: Four,
+}
+
+impl Axes {
+    #[inline(always)]
+    pub fn y(self) -> Four {
+        self.z.cross(self.x)
+    }
+}
+
+/// The frame at the first vertex.
+pub fn first(curve: &[f32]) -> Four {
+    let [x, y, z] = [0, 1, 2].map(|axis| curve[3 + axis] - curve[axis]);
+    let Point { x, y, z } = first_frame(Point::new(x, y, z));
+    Four::point([x, y, z])
+}
+
+/// The axis along an open curve at its inner vertices.
+#[inline(always)]
+pub fn bisecting(before: [Four; 3], after: [Four; 3]) -> [Four; 3] {
+    let sum = sums(before, after);
+    normalised(sum, dots(sum, sum))
+}
+
+/// The axis along a closed curve.
+#[inline(always)]
+pub fn leaving(_before: [Four; 3], after: [Four; 3]) -> [Four; 3] {
+    after
+}
+
+/// Visits each vertex at which two segments meet, in order, with the axis along the curve as it is asked for.
+/// Gives the last frame.
+#[inline(always)]
+pub fn carry(
+    directions: &Directions,
+    mut frame: Four,
+    along: impl Fn([Four; 3], [Four; 3]) -> [Four; 3],
+    mut visit: impl FnMut(usize, Axes),
+) -> Four {
+    let segments = directions.segments();
+    for start in (1..segments).step_by(4) {
+        let [before, after] = [start - 1, start].map(|at| directions.four(at));
+        let c = dots(before, after);
+        let [q_x, q_y, q_z] = crosses(before, after);
+        let [z_x, z_y, z_z] = along(before, after);
+        let steps = transposed([q_x, q_y, q_z, c]).into_iter();
+        let axes = transposed([z_x, z_y, z_z, Four::all(1.0) + c]);
+        for (place, (step, z)) in steps.zip(axes).take(segments - start).enumerate() {
+            frame = carried(frame, step, step.lane_in_all::<3>(), z.lane_in_all::<3>());
+            visit(start + place, Axes { x: frame, z });
+        }
+    }
+    frame
+}
+
+/// Document 01's transport step, of q, c and 1 + c.
+#[inline(always)]
+fn carried(frame: Four, q: Four, c: Four, opening: Four) -> Four {
+    (frame * c + q.cross(frame)) + q * (q.dot(frame) / opening)
+}

@@ -1,0 +1,70 @@
+//! The Rust that the proved code's time is held to, beside the reading of document 01: every answer, and every
+//! element of all three buffers after each addition. A yardstick that left work out would be none.
+
+use togbefulo_tests::{
+    additions,
+    buffers::{Buffers, Lengths},
+    generator::Generator,
+    inputs::{self, Extent, KINDS},
+    met::Met,
+    optimised,
+    paper::description::Input,
+    readings,
+};
+
+/// Every number that an addition can get, 1 last.
+const ANSWERS: [u32; 13] = [0, 1, 2, 3, 4, 10, 11, 12, 13, 20, 21, 22, 23];
+
+fn compare(input: &Input, optimised: &mut Buffers, met: &mut Met) {
+    let mut read = optimised.clone();
+    let answer = optimised::add(input, optimised);
+    assert_eq!(answer, readings::add(input, &mut read), "{input:?}");
+    assert!(optimised.is_same(&read), "answered {answer}: {input:?}");
+    met.count(answer);
+}
+
+/// In buffers that hold anything, after a clear, and in one list of four without one.
+#[test]
+fn lists_of_additions() {
+    let mut generator = Generator::new(36);
+    let mut met = Met::default();
+    for list in 0..1_000 {
+        let mut lent = additions::lent(&mut generator);
+        if list % 4 > 0 {
+            assert_eq!(optimised::clear(&mut lent.table), 0);
+        }
+        for input in additions::list(&mut generator) {
+            compare(&input, &mut lent, &mut met);
+        }
+    }
+    println!("lists of additions, {met}");
+    assert_eq!(met.answers(), ANSWERS);
+}
+
+/// Sets that are full to the last element, so that nothing may be written past a body.
+#[test]
+fn bodies_that_fit_exactly() {
+    let mut generator = Generator::new(37);
+    let mut met = Met::default();
+    for (kind, _) in KINDS {
+        for round in 0..500 {
+            let extent = match round {
+                0 => Extent::Longest,
+                _ => Extent::Usual,
+            };
+            let input = inputs::accepted(&mut generator, kind, extent);
+            let counts = input.description().counts(input.curve.len() / 3);
+            let [vertices, triangles] = counts.expect("accepted").map(|count| 3 * count as usize);
+            let lengths = Lengths {
+                table: 7,
+                vertices,
+                triangles,
+            };
+            let mut lent = Buffers::garbage(&mut generator, lengths);
+            lent.table[0] = 0;
+            compare(&input, &mut lent, &mut met);
+        }
+    }
+    println!("bodies that fit exactly, {met}");
+    assert_eq!(met.answers(), [0, 23]);
+}
