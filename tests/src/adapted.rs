@@ -1,8 +1,13 @@
 //! Bodies as the adapted functions of del-msh make them.
 
 use crate::{
+    buffers::Buffers,
     del_msh::{polyline3, polyloop3, trimesh3_primitive},
-    paper::{description::Description, ledger::Alone},
+    optimised,
+    paper::{
+        description::{Description, Input},
+        ledger::Alone,
+    },
 };
 
 /// Triangles with local indices, and vertices.
@@ -63,4 +68,22 @@ pub fn alone(description: Description, curve: &[f32]) -> Alone {
         vertices,
         triangles: triangles.into_iter().map(narrowed).collect(),
     }
+}
+
+/// An addition with the checks of the optimised Rust, whose body the source makes as it stands. Its lists are then
+/// copied into the lent buffers.
+pub fn add(input: &Input, lent: &mut Buffers) -> u32 {
+    optimised::add_by(input, lent, |description, _, _, place| {
+        let (triangles, vertices) = body(description, &input.curve);
+        let floats = vertices.as_flattened();
+        if !floats.iter().all(|x| x.is_finite()) {
+            return false;
+        }
+        place.vertices.copy_from_slice(floats);
+        let indices = triangles.as_flattened().iter();
+        for (to, index) in place.triangles.iter_mut().zip(indices) {
+            *to = place.first + *index as u32;
+        }
+        true
+    })
 }

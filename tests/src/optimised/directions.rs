@@ -125,11 +125,7 @@ impl Directions {
 #[inline(always)]
 fn differences(points: &[f32; 15]) -> [Four; 3] {
     let four = |at: usize| Four::load(points[at..at + 4].try_into().expect("4 floats"));
-    [
-        four(3) - four(0),
-        four(7) - four(4),
-        four(11) - four(8),
-    ]
+    [four(3) - four(0), four(7) - four(4), four(11) - four(8)]
 }
 
 /// The differences from this segment on to the last one, which is repeated.

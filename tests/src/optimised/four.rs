@@ -35,7 +35,11 @@ lane_by_lane!(
 macro_rules! shuffle {
     ($low:expr, $high:expr, $a:literal, $b:literal, $c:literal, $d:literal) => {
         // SAFETY: SSE2 is part of the target.
-        unsafe { Four(_mm_shuffle_ps::<{ $a | $b << 2 | $c << 4 | $d << 6 }>($low.0, $high.0)) }
+        unsafe {
+            Four(_mm_shuffle_ps::<{ $a | $b << 2 | $c << 4 | $d << 6 }>(
+                $low.0, $high.0,
+            ))
+        }
     };
 }
 

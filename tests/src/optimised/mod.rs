@@ -21,20 +21,46 @@ use crate::{
     paper::description::{number, Description, Input, Refusal},
     topology::Body,
 };
-use directions::Directions;
+pub use directions::Directions;
 
 /// Answers 0 where the body was added, and otherwise the number of the first refusal.
 pub fn add(input: &Input, lent: &mut Buffers) -> u32 {
+    add_by(input, lent, |description, body, directions, place| {
+        if !vertices::write(description, &input.curve, directions, place.vertices) {
+            return false;
+        }
+        triangles::write(body, place.first, place.triangles);
+        true
+    })
+}
+
+/// The body's own stretches of the buffers, and the number of its first vertex.
+pub struct Place<'a> {
+    pub first: u32,
+    pub vertices: &'a mut [f32],
+    pub triangles: &'a mut [u32],
+}
+
+/// An addition whose body is made by `make`, which answers whether all coordinates are finite, and otherwise has
+/// left the triangles as they were.
+#[inline(always)]
+pub fn add_by(
+    input: &Input,
+    lent: &mut Buffers,
+    make: impl FnOnce(Description, Body, &Directions, Place) -> bool,
+) -> u32 {
     Description::of(input.fields).map_or(UNKNOWN_KIND, |description| {
-        number(add_described(description, &input.curve, lent))
+        number(add_described(description, &input.curve, lent, make))
     })
 }
 
 /// Refusals 1, 10, 20, 21, 22, 11, 12, 13, 2, 3, 4, 23, in this order.
+#[inline(always)]
 fn add_described(
     description: Description,
     curve: &[f32],
     lent: &mut Buffers,
+    make: impl FnOnce(Description, Body, &Directions, Place) -> bool,
 ) -> Result<(), Refusal> {
     let before = table::read(lent)?;
     let body = numbers(description, curve)?;
@@ -43,13 +69,16 @@ fn add_described(
         directions.work_out(curve, description.is_torus())?;
     }
     let after = table::make_room(before, body, lent.lengths())?;
-    let stretch = &mut lent.vertices[3 * before.vertices..3 * after.vertices];
-    if !vertices::write(description, curve, &directions, stretch) {
-        stretch.fill(0.0);
+    let stretch = 3 * before.vertices..3 * after.vertices;
+    let place = Place {
+        first: before.vertices as u32,
+        vertices: &mut lent.vertices[stretch.clone()],
+        triangles: &mut lent.triangles[3 * before.triangles..3 * after.triangles],
+    };
+    if !make(description, body, &directions, place) {
+        lent.vertices[stretch].fill(0.0);
         return Err(Refusal::VertexNotFinite);
     }
-    let stretch = &mut lent.triangles[3 * before.triangles..3 * after.triangles];
-    triangles::write(body, before.vertices as u32, stretch);
     table::enter(&mut lent.table, description, before, after);
     Ok(())
 }

@@ -86,7 +86,10 @@ impl Level {
     pub fn new(divisions: u32, radius: f32) -> Level {
         let Round { mut cos, sin } = Round::new(divisions).scaled(radius);
         let points = cos.blocks.as_flattened_mut().as_chunks_mut::<3>().0;
-        for (point, sin) in points.iter_mut().zip(sin.blocks.as_flattened().as_chunks::<3>().0) {
+        for (point, sin) in points
+            .iter_mut()
+            .zip(sin.blocks.as_flattened().as_chunks::<3>().0)
+        {
             *point = [point[0], 0.0, sin[2]];
         }
         Level(cos)

@@ -98,7 +98,9 @@ fn write_ribbon(curve: &[f32], directions: &Directions, width: f32, stretch: &mu
     };
     let frame = first(curve);
     pair(0, frame);
-    let frame = carry(directions, frame, leaving, |place, axes| pair(place, axes.x));
+    let frame = carry(directions, frame, leaving, |place, axes| {
+        pair(place, axes.x)
+    });
     pair(directions.segments(), frame);
     finite.is_kept()
 }
