@@ -38,10 +38,12 @@ impl Directions {
     #[inline(always)]
     pub fn four(&self, at: usize) -> [Four; 3] {
         assert!(at + 4 <= self.written);
-        // SAFETY: the first `written` floats of each component have been written.
-        [0, 1, 2].map(|axis| unsafe {
-            Four::load(&*self.components[axis].as_ptr().add(at).cast::<[f32; 4]>())
-        })
+        let component = |axis: usize| {
+            let start = self.components[axis].as_ptr();
+            // SAFETY: the first `written` floats of each component have been written.
+            Four::load(unsafe { &*start.add(at).cast::<[f32; 4]>() })
+        };
+        [component(0), component(1), component(2)]
     }
 
     #[inline(always)]

@@ -194,5 +194,5 @@ pub fn sums(a: [Four; 3], b: [Four; 3]) -> [Four; 3] {
 #[inline(always)]
 pub fn normalised(a: [Four; 3], squares: Four) -> [Four; 3] {
     let norms = squares.root();
-    a.map(|component| component / norms)
+    [a[0] / norms, a[1] / norms, a[2] / norms]
 }

@@ -42,7 +42,7 @@ pub fn leaving(_before: [Four; 3], after: [Four; 3]) -> [Four; 3] {
 }
 
 /// Visits each vertex at which two segments meet, in order, with the axis along the curve as it is asked for.
-/// Gives the last frame.
+/// Gives the last frame. A visit comes after the next step, so that the machine can do both at once.
 #[inline(always)]
 pub fn carry(
     directions: &Directions,
@@ -51,8 +51,9 @@ pub fn carry(
     mut visit: impl FnMut(usize, Axes),
 ) -> Four {
     let segments = directions.segments();
+    let mut waiting = None;
     for start in (1..segments).step_by(4) {
-        let [before, after] = [start - 1, start].map(|at| directions.four(at));
+        let (before, after) = (directions.four(start - 1), directions.four(start));
         let c = dots(before, after);
         let [q_x, q_y, q_z] = crosses(before, after);
         let [z_x, z_y, z_z] = along(before, after);
@@ -60,8 +61,13 @@ pub fn carry(
         let axes = transposed([z_x, z_y, z_z, Four::all(1.0) + c]);
         for (place, (step, z)) in steps.zip(axes).take(segments - start).enumerate() {
             frame = carried(frame, step, step.lane_in_all::<3>(), z.lane_in_all::<3>());
-            visit(start + place, Axes { x: frame, z });
+            if let Some((vertex, axes)) = waiting.replace((start + place, Axes { x: frame, z })) {
+                visit(vertex, axes);
+            }
         }
+    }
+    if let Some((vertex, axes)) = waiting {
+        visit(vertex, axes);
     }
     frame
 }

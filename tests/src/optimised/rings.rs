@@ -2,58 +2,68 @@
 
 use super::{
     four::Four,
-    tables::{registers, Factors, Level},
+    tables::{registers, Block},
 };
 
-/// Notes whether every coordinate that was written is finite: its product with 0 is, or else a NaN.
+/// Notes whether every coordinate that was written is finite: a sum that has met an infinity or a NaN stays one.
+/// The sum may overflow by itself, so that finite coordinates may have to be looked at one by one.
 #[derive(Clone, Copy)]
-pub struct Finite(Four);
+pub struct Finite([Four; 3]);
 
 impl Finite {
     #[inline(always)]
     pub fn new() -> Finite {
-        Finite(Four::all(0.0))
+        Finite([Four::all(0.0); 3])
     }
 
     #[inline(always)]
-    pub fn note(&mut self, coordinates: Four) {
-        self.0 = self.0 | coordinates * Four::all(0.0);
+    pub fn note(&mut self, coordinates: [Four; 3]) {
+        for (sum, coordinates) in self.0.iter_mut().zip(coordinates) {
+            *sum = *sum + coordinates;
+        }
     }
 
-    pub fn is_kept(self) -> bool {
-        self.0.lanes().iter().all(|lane| *lane == 0.0)
+    /// Whether the coordinates, all of which have been noted, are finite.
+    pub fn are(self, coordinates: &[f32]) -> bool {
+        let sums = self.0.map(Four::lanes);
+        let finite = sums.as_flattened().iter().all(|sum| sum.is_finite());
+        finite || coordinates.iter().all(|x| x.is_finite())
     }
 }
 
-/// Writes the blocks of a ring to the front of `out`, whose rest belongs to the same body and is written later, so
-/// that a last block may reach beyond the ring. Where `out` ends with the ring, the block is cut off.
+/// Writes a ring to the front of `out`, whose rest belongs to the same body and is written later, so that a last
+/// block may reach beyond the ring. Where `out` ends with the ring, the block is cut off.
 #[inline(always)]
-fn write_blocks(
+fn write_blocks<T>(
     out: &mut [f32],
-    divisions: usize,
+    blocks: impl ExactSizeIterator<Item = T>,
+    block: impl Fn(T) -> [Four; 3],
     finite: &mut Finite,
-    mut block: impl FnMut(usize) -> [Four; 3],
 ) {
     let mut noted = *finite;
-    let (whole, _) = out.as_chunks_mut::<12>();
-    let blocks = divisions.div_ceil(4);
-    for (place, to) in whole.iter_mut().take(blocks).enumerate() {
-        let fours = to.as_chunks_mut::<4>().0;
-        for (register, to) in block(place).into_iter().zip(fours) {
-            noted.note(register);
-            register.store(to);
+    let (whole, rest) = out.as_chunks_mut::<12>();
+    let mut whole = whole.iter_mut();
+    for from in blocks {
+        let coordinates = block(from);
+        noted.note(coordinates);
+        match whole.next() {
+            Some(to) => store(coordinates, to),
+            None => {
+                let mut last = [0.0; 12];
+                store(coordinates, &mut last);
+                rest.copy_from_slice(&last[..rest.len()]);
+            }
         }
-    }
-    if whole.len() < blocks {
-        let mut last = [[0.0; 4]; 3];
-        for (register, to) in block(blocks - 1).into_iter().zip(&mut last) {
-            noted.note(register);
-            register.store(to);
-        }
-        let rest = &mut out[12 * (blocks - 1)..3 * divisions];
-        rest.copy_from_slice(&last.as_flattened()[..rest.len()]);
     }
     *finite = noted;
+}
+
+#[inline(always)]
+fn store(coordinates: [Four; 3], to: &mut Block) {
+    let fours = to.as_chunks_mut::<4>().0;
+    for (register, four) in coordinates.into_iter().zip(fours) {
+        register.store(four);
+    }
 }
 
 /// (middle + first axis · factor) + second axis · factor.
@@ -61,17 +71,17 @@ fn write_blocks(
 pub fn write_sum(
     out: &mut [f32],
     middle: Four,
-    first: (Four, &Factors),
-    second: (Four, &Factors),
+    (first, factors): (Four, &[Block]),
+    (second, factors_after): (Four, &[Block]),
     finite: &mut Finite,
 ) {
-    let [middle, axis, axis_after] = [middle, first.0, second.0].map(Four::repeated);
-    let factors = first.1.blocks();
-    let factors_after = &second.1.blocks()[..factors.len()];
-    write_blocks(out, first.1.divisions(), finite, |place| {
-        let [before, after] = [&factors[place], &factors_after[place]].map(registers);
-        [0, 1, 2].map(|k| (middle[k] + axis[k] * before[k]) + axis_after[k] * after[k])
-    });
+    let (middle, first, second) = (middle.repeated(), first.repeated(), second.repeated());
+    let block = |(before, after): (&Block, &Block)| {
+        let (before, after) = (registers(before), registers(after));
+        let sum = |k: usize| (middle[k] + first[k] * before[k]) + second[k] * after[k];
+        [sum(0), sum(1), sum(2)]
+    };
+    write_blocks(out, factors.iter().zip(factors_after), block, finite);
 }
 
 /// middle + (first axis · factor + second axis · factor) · radius.
@@ -79,28 +89,29 @@ pub fn write_sum(
 pub fn write_scaled_sum(
     out: &mut [f32],
     middle: Four,
-    first: (Four, &Factors),
-    second: (Four, &Factors),
+    (first, factors): (Four, &[Block]),
+    (second, factors_after): (Four, &[Block]),
     radius: f32,
     finite: &mut Finite,
 ) {
-    let [middle, axis, axis_after] = [middle, first.0, second.0].map(Four::repeated);
+    let (middle, first, second) = (middle.repeated(), first.repeated(), second.repeated());
     let radius = Four::all(radius);
-    let factors = first.1.blocks();
-    let factors_after = &second.1.blocks()[..factors.len()];
-    write_blocks(out, first.1.divisions(), finite, |place| {
-        let [before, after] = [&factors[place], &factors_after[place]].map(registers);
-        [0, 1, 2].map(|k| middle[k] + (axis[k] * before[k] + axis_after[k] * after[k]) * radius)
-    });
+    let block = |(before, after): (&Block, &Block)| {
+        let (before, after) = (registers(before), registers(after));
+        let sum = |k: usize| middle[k] + (first[k] * before[k] + second[k] * after[k]) * radius;
+        [sum(0), sum(1), sum(2)]
+    };
+    write_blocks(out, factors.iter().zip(factors_after), block, finite);
 }
 
-/// A level's coordinates with the height put in.
+/// A level's coordinates with the height put in, where they have +0.
 #[inline(always)]
-pub fn write_level(out: &mut [f32], level: &Level, height: f32, finite: &mut Finite) {
+pub fn write_level(out: &mut [f32], level: &[Block], height: f32, finite: &mut Finite) {
     let heights = Four::point([0.0, height, 0.0]).repeated();
-    let blocks = level.blocks();
-    write_blocks(out, level.divisions(), finite, |place| {
-        let level = registers(&blocks[place]);
-        [0, 1, 2].map(|k| level[k] | heights[k])
-    });
+    let block = |level: &Block| {
+        let level = registers(level);
+        let put = |k: usize| level[k] | heights[k];
+        [put(0), put(1), put(2)]
+    };
+    write_blocks(out, level.iter(), block, finite);
 }

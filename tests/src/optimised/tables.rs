@@ -3,103 +3,144 @@
 
 use super::four::Four;
 use crate::arithmetic::turn;
+use std::mem::MaybeUninit;
 
-/// The most divisions, in blocks of four.
+/// A float for each coordinate of four vertices.
+pub type Block = [f32; 12];
+
+/// The most divisions, in blocks.
 const BLOCKS: usize = 256 / 4;
 
-/// A factor for each coordinate of a ring. Past the last vertex the ring begins anew, to fill a block.
-#[derive(Clone)]
-pub struct Factors {
-    blocks: [[f32; 12]; BLOCKS],
-    divisions: usize,
-}
+/// A float for each coordinate of a ring. Past the last vertex the ring begins anew, to fill a block.
+struct Blocks([MaybeUninit<Block>; BLOCKS]);
 
-impl Factors {
-    fn none(divisions: usize) -> Factors {
-        Factors {
-            blocks: [[0.0; 12]; BLOCKS],
-            divisions,
-        }
-    }
-
-    pub fn divisions(&self) -> usize {
-        self.divisions
+impl Blocks {
+    /// Nothing is written, since most rings need little of the room.
+    #[inline(always)]
+    fn of_anything() -> Blocks {
+        Blocks([const { MaybeUninit::uninit() }; BLOCKS])
     }
 
     #[inline(always)]
-    pub fn blocks(&self) -> &[[f32; 12]] {
-        &self.blocks[..self.divisions.div_ceil(4)]
+    fn set(&mut self, place: usize, block: Block) {
+        self.0[place].write(block);
     }
 
-    /// Each factor times the scale.
-    pub fn scaled(&self, scale: f32) -> Factors {
-        let mut scaled = Factors::none(self.divisions);
-        for (block, to) in self.blocks().iter().zip(&mut scaled.blocks) {
-            *to = block.map(|factor| scale * factor);
-        }
-        scaled
+    /// The first blocks.
+    ///
+    /// # Safety
+    /// They have been set.
+    #[inline(always)]
+    unsafe fn first(&self, count: usize) -> &[Block] {
+        // SAFETY: the caller's promise.
+        unsafe { self.0[..count].assume_init_ref() }
     }
 }
 
-/// Cosines and sines of the directions round a body.
+/// Cosines and sines of the directions round a body, or these times some scale.
 pub struct Round {
-    pub cos: Factors,
-    pub sin: Factors,
+    cosines: Blocks,
+    sines: Blocks,
+    divisions: usize,
 }
 
 impl Round {
+    #[inline(always)]
     pub fn new(divisions: u32) -> Round {
         let mut round = Round {
-            cos: Factors::none(divisions as usize),
-            sin: Factors::none(divisions as usize),
+            cosines: Blocks::of_anything(),
+            sines: Blocks::of_anything(),
+            divisions: divisions as usize,
         };
-        let [cosines, sines] = [&mut round.cos, &mut round.sin]
-            .map(|factors| factors.blocks.as_flattened_mut().as_chunks_mut::<3>().0);
-        let last = (divisions as usize).next_multiple_of(4);
-        for (place, (cos, sin)) in cosines.iter_mut().zip(sines).take(last).enumerate() {
-            let turned = turn(place as u32 % divisions, divisions);
-            *cos = [turned.0; 3];
-            *sin = [turned.1; 3];
+        for place in 0..round.blocks() {
+            let turns = four_turns(place, divisions);
+            round.cosines.set(place, thrice(turns.map(|pair| pair.0)));
+            round.sines.set(place, thrice(turns.map(|pair| pair.1)));
         }
         round
     }
 
+    #[inline(always)]
     pub fn scaled(&self, scale: f32) -> Round {
-        Round {
-            cos: self.cos.scaled(scale),
-            sin: self.sin.scaled(scale),
+        let mut scaled = Round {
+            cosines: Blocks::of_anything(),
+            sines: Blocks::of_anything(),
+            divisions: self.divisions,
+        };
+        let blocks = self.cosines().iter().zip(self.sines()).enumerate();
+        for (place, (cosines, sines)) in blocks {
+            scaled.cosines.set(place, cosines.map(|cos| scale * cos));
+            scaled.sines.set(place, sines.map(|sin| scale * sin));
         }
+        scaled
+    }
+
+    fn blocks(&self) -> usize {
+        self.divisions.div_ceil(4)
+    }
+
+    #[inline(always)]
+    pub fn cosines(&self) -> &[Block] {
+        // SAFETY: both makers set as many blocks.
+        unsafe { self.cosines.first(self.blocks()) }
+    }
+
+    #[inline(always)]
+    pub fn sines(&self) -> &[Block] {
+        // SAFETY: both makers set as many blocks.
+        unsafe { self.sines.first(self.blocks()) }
     }
 }
 
-/// A block of twelve floats as three registers.
+/// The directions of a block's vertices.
 #[inline(always)]
-pub fn registers(block: &[f32; 12]) -> [Four; 3] {
-    let fours = block.as_chunks::<4>().0;
-    [&fours[0], &fours[1], &fours[2]].map(Four::load)
+fn four_turns(place: usize, divisions: u32) -> [(f32, f32); 4] {
+    let first = 4 * place as u32;
+    [first, first + 1, first + 2, first + 3]
+        .map(|k| turn(if k < divisions { k } else { k - divisions }, divisions))
 }
 
-/// A level of a closed cylinder, with +0 where the height goes.
-pub struct Level(Factors);
+#[inline(always)]
+fn thrice([a, b, c, d]: [f32; 4]) -> Block {
+    [a, a, a, b, b, b, c, c, c, d, d, d]
+}
+
+/// The coordinates of a closed cylinder's level, with +0 in place of the height.
+pub struct Level {
+    coordinates: Blocks,
+    blocks: usize,
+}
 
 impl Level {
+    #[inline(always)]
     pub fn new(divisions: u32, radius: f32) -> Level {
-        let Round { mut cos, sin } = Round::new(divisions).scaled(radius);
-        let points = cos.blocks.as_flattened_mut().as_chunks_mut::<3>().0;
-        for (point, sin) in points
-            .iter_mut()
-            .zip(sin.blocks.as_flattened().as_chunks::<3>().0)
-        {
-            *point = [point[0], 0.0, sin[2]];
+        let mut level = Level {
+            coordinates: Blocks::of_anything(),
+            blocks: divisions.div_ceil(4) as usize,
+        };
+        for place in 0..level.blocks {
+            let turns = four_turns(place, divisions);
+            let points = turns.map(|(cos, sin)| [radius * cos, 0.0, radius * sin]);
+            let block = points.as_flattened().try_into().expect("4 points");
+            level.coordinates.set(place, block);
         }
-        Level(cos)
+        level
     }
 
-    pub fn divisions(&self) -> usize {
-        self.0.divisions()
+    #[inline(always)]
+    pub fn blocks(&self) -> &[Block] {
+        // SAFETY: the maker sets as many blocks.
+        unsafe { self.coordinates.first(self.blocks) }
     }
+}
 
-    pub fn blocks(&self) -> &[[f32; 12]] {
-        self.0.blocks()
-    }
+/// A block as three registers.
+#[inline(always)]
+pub fn registers(block: &Block) -> [Four; 3] {
+    let fours = block.as_chunks::<4>().0;
+    [
+        Four::load(&fours[0]),
+        Four::load(&fours[1]),
+        Four::load(&fours[2]),
+    ]
 }

@@ -76,21 +76,31 @@ fn write_row(quad: Quad, divisions: u32, from: u32, to: u32, row: &mut [u32]) {
     }
 }
 
-/// The most numbers of a row.
-const ROW: usize = 6 * 256;
-
 /// As many rows as there is room for, each from its ring to the next.
 fn write_rows(quad: Quad, divisions: u32, first: u32, rows: &mut [u32]) {
-    let mut template = [0; ROW];
     let row = 6 * divisions as usize;
-    let template = &mut template[..row];
+    if rows.is_empty() {
+        return;
+    }
+    let (template, others) = rows.split_at_mut(row);
     write_row(quad, divisions, first, first + divisions, template);
-    let mut added = 0;
-    for row in rows.chunks_exact_mut(row) {
-        for (to, from) in row.iter_mut().zip(&*template) {
-            *to = from + added;
-        }
+    let mut added = divisions;
+    for row in others.chunks_exact_mut(row) {
+        write_shifted(row, template, added);
         added += divisions;
+    }
+}
+
+/// The same row with a number added, four and then two at a time.
+#[inline(always)]
+fn write_shifted(row: &mut [u32], template: &[u32], added: u32) {
+    let ((fours, rest), (from_fours, from_rest)) =
+        (row.as_chunks_mut::<4>(), template.as_chunks::<4>());
+    for (to, from) in fours.iter_mut().zip(from_fours) {
+        *to = from.map(|index| index + added);
+    }
+    for (to, from) in rest.iter_mut().zip(from_rest) {
+        *to = from + added;
     }
 }
 

@@ -84,7 +84,7 @@ fn end(direction: [f32; 3], frame: Four) -> Axes {
 #[inline(always)]
 fn write_point(stretch: &mut [f32], place: usize, point: Four, finite: &mut Finite) {
     let [x, y, z, _] = point.lanes();
-    finite.note(Four::point([x, y, z]));
+    finite.note([Four::point([x, y, z]); 3]);
     stretch[3 * place..][..3].copy_from_slice(&[x, y, z]);
 }
 
@@ -102,7 +102,7 @@ fn write_ribbon(curve: &[f32], directions: &Directions, width: f32, stretch: &mu
         pair(place, axes.x)
     });
     pair(directions.segments(), frame);
-    finite.is_kept()
+    finite.are(stretch)
 }
 
 fn write_tube(
@@ -117,14 +117,14 @@ fn write_tube(
     let n = divisions as usize;
     let mut ring = |place: usize, axes: Axes| {
         let (p, out) = (vertex(curve, place), &mut stretch[3 * place * n..]);
-        let [y, x] = [(axes.y(), &round.cos), (axes.x, &round.sin)];
+        let [y, x] = [(axes.y(), round.cosines()), (axes.x, round.sines())];
         write_sum(out, p, y, x, &mut finite);
     };
     let frame = first(curve);
     ring(0, end(directions.direction(0), frame));
     let frame = carry(directions, frame, bisecting, &mut ring);
     ring(directions.segments(), end(directions.last(), frame));
-    finite.is_kept()
+    finite.are(stretch)
 }
 
 fn write_capsule(
@@ -145,7 +145,7 @@ fn write_capsule(
     let bottom = end(directions.direction(0), frame);
     let frame = carry(directions, frame, bisecting, |place, axes| {
         let (p, out) = (vertex(curve, place), &mut rings[ring * (l + place - 1)..]);
-        let [y, x] = [(axes.y(), &side.cos), (axes.x, &side.sin)];
+        let [y, x] = [(axes.y(), side.cosines()), (axes.x, side.sines())];
         write_sum(out, p, y, x, &mut finite);
     });
     let top = end(directions.last(), frame);
@@ -155,11 +155,11 @@ fn write_capsule(
         let (cos, sin) = turn(j as u32, 4 * longitudes);
         let tilted = round.scaled(radius * cos);
         let middle = p + bottom.z * Four::all(-radius * sin);
-        let [y, x] = [(bottom.y(), &tilted.cos), (bottom.x, &tilted.sin)];
+        let [y, x] = [(bottom.y(), tilted.cosines()), (bottom.x, tilted.sines())];
         let out = &mut rings[ring * (l - 1 - j)..][..ring];
         write_sum(out, middle, y, x, &mut finite);
         let middle = q + top.z * Four::all(radius * sin);
-        let [y, x] = [(top.y(), &tilted.cos), (top.x, &tilted.sin)];
+        let [y, x] = [(top.y(), tilted.cosines()), (top.x, tilted.sines())];
         let out = &mut rings[ring * (l + directions.segments() - 1 + j)..][..ring];
         write_sum(out, middle, x, y, &mut finite);
     }
@@ -167,7 +167,7 @@ fn write_capsule(
     write_point(stretch, 0, p - bottom.z * radius, &mut finite);
     let last = stretch.len() / 3 - 1;
     write_point(stretch, last, q + top.z * radius, &mut finite);
-    finite.is_kept()
+    finite.are(stretch)
 }
 
 fn write_torus(
@@ -182,13 +182,13 @@ fn write_torus(
     let n = divisions as usize;
     let mut ring = |place: usize, axes: Axes| {
         let (p, out) = (vertex(curve, place), &mut stretch[3 * place * n..]);
-        let [x, y] = [(axes.x, &round.cos), (axes.y(), &round.sin)];
+        let [x, y] = [(axes.x, round.cosines()), (axes.y(), round.sines())];
         write_scaled_sum(out, p, x, y, radius, &mut finite);
     };
     let frame = first(curve);
     ring(0, end(directions.direction(0), frame));
     carry(directions, frame, leaving, ring);
-    finite.is_kept()
+    finite.are(stretch)
 }
 
 fn write_closed_cylinder(
@@ -202,10 +202,11 @@ fn write_closed_cylinder(
     let step = length / layers as f32;
     for g in 0..=layers as usize {
         let height = low + step * g as f32;
-        write_level(&mut stretch[3 + 3 * n * g..], &level, height, &mut finite);
+        let out = &mut stretch[3 + 3 * n * g..];
+        write_level(out, level.blocks(), height, &mut finite);
     }
     write_point(stretch, 0, Four::point([0.0, low, 0.0]), &mut finite);
     let top = Four::point([0.0, low + length, 0.0]);
     write_point(stretch, stretch.len() / 3 - 1, top, &mut finite);
-    finite.is_kept()
+    finite.are(stretch)
 }
