@@ -1,13 +1,13 @@
 //! Bodies as the adapted functions of del-msh make them.
 
 use crate::{
-    buffers::Buffers,
     del_msh::{polyline3, polyloop3, trimesh3_primitive},
-    optimised,
+    optimised::{Form, Sse2},
     paper::{
-        description::{Description, Input},
+        description::{Description, Refusal},
         ledger::Alone,
     },
+    topology::Body,
 };
 
 /// Triangles with local indices, and vertices.
@@ -70,20 +70,34 @@ pub fn alone(description: Description, curve: &[f32]) -> Alone {
     }
 }
 
-/// An addition with the checks of the optimised Rust, whose body the source makes as it stands. Its lists are then
-/// copied into the lent buffers.
-pub fn add(input: &Input, lent: &mut Buffers) -> u32 {
-    optimised::add_by(input, lent, |description, _, _, place| {
-        let (triangles, vertices) = body(description, &input.curve);
-        let floats = vertices.as_flattened();
-        if !floats.iter().all(|x| x.is_finite()) {
-            return false;
+/// The source as it stands, with the checks of the optimised Rust. Its lists are copied into the lent buffers.
+pub struct Source {
+    checks: Sse2,
+    triangles: Vec<[usize; 3]>,
+}
+
+impl Form for Source {
+    fn new() -> Source {
+        Source {
+            checks: Sse2::new(),
+            triangles: Vec::new(),
         }
-        place.vertices.copy_from_slice(floats);
-        let indices = triangles.as_flattened().iter();
-        for (to, index) in place.triangles.iter_mut().zip(indices) {
-            *to = place.first + *index as u32;
+    }
+
+    fn check(&mut self, curve: &[f32], closed: bool) -> Result<(), Refusal> {
+        self.checks.check(curve, closed)
+    }
+
+    fn write_vertices(&mut self, description: Description, curve: &[f32], out: &mut [f32]) -> bool {
+        let (triangles, vertices) = body(description, curve);
+        self.triangles = triangles;
+        out.copy_from_slice(vertices.as_flattened());
+        out.iter().fold(true, |finite, x| finite & x.is_finite())
+    }
+
+    fn write_triangles(&mut self, _body: Body, first: u32, out: &mut [u32]) {
+        for (to, index) in out.iter_mut().zip(self.triangles.as_flattened()) {
+            *to = first + *index as u32;
         }
-        true
-    })
+    }
 }

@@ -2,12 +2,13 @@
 //! element of all three buffers after each addition. A yardstick that left work out would be none.
 
 use togbefulo_tests::{
+    adapted::Source,
     additions,
     buffers::{Buffers, Lengths},
     generator::Generator,
     inputs::{self, Extent, KINDS},
     met::Met,
-    optimised,
+    optimised::{self, Plain, Sse2},
     paper::description::Input,
     readings,
 };
@@ -15,11 +16,22 @@ use togbefulo_tests::{
 /// Every number that an addition can get, 1 last.
 const ANSWERS: [u32; 13] = [0, 1, 2, 3, 4, 10, 11, 12, 13, 20, 21, 22, 23];
 
-fn compare(input: &Input, optimised: &mut Buffers, met: &mut Met) {
-    let mut read = optimised.clone();
-    let answer = optimised::add(input, optimised);
-    assert_eq!(answer, readings::add(input, &mut read), "{input:?}");
-    assert!(optimised.is_same(&read), "answered {answer}: {input:?}");
+/// Plain, in registers, and the source with the same checks.
+const FORMS: [fn(&Input, &mut Buffers) -> u32; 3] = [
+    optimised::add::<Plain>,
+    optimised::add::<Sse2>,
+    optimised::add::<Source>,
+];
+
+fn compare(input: &Input, lent: &mut Buffers, met: &mut Met) {
+    let before = lent.clone();
+    let answer = readings::add(input, lent);
+    for (form, add) in FORMS.into_iter().enumerate() {
+        let mut optimised = before.clone();
+        assert_eq!(add(input, &mut optimised), answer, "form {form}: {input:?}");
+        let same = optimised.is_same(lent);
+        assert!(same, "form {form}, answered {answer}: {input:?}");
+    }
     met.count(answer);
 }
 

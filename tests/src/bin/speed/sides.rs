@@ -5,7 +5,13 @@ use crate::{
     measure::{repeat, time, Times},
 };
 use std::{hint::black_box, time::Duration};
-use togbefulo_tests::{adapted, buffers::Buffers, library, optimised, paper::description::Input};
+use togbefulo_tests::{
+    adapted::Source,
+    buffers::Buffers,
+    library,
+    optimised::{self, Plain, Sse2},
+    paper::description::Input,
+};
 
 /// A way of doing the calls of the set.
 pub struct Side {
@@ -13,18 +19,22 @@ pub struct Side {
     pub add: fn(&Input, &mut Buffers) -> u32,
 }
 
-pub const SIDES: [Side; 3] = [
+pub const SIDES: [Side; 4] = [
     Side {
         clear: library::clear,
         add: library::add,
     },
     Side {
         clear: optimised::clear,
-        add: optimised::add,
+        add: optimised::add::<Plain>,
     },
     Side {
         clear: optimised::clear,
-        add: adapted::add,
+        add: optimised::add::<Sse2>,
+    },
+    Side {
+        clear: optimised::clear,
+        add: optimised::add::<Source>,
     },
 ];
 

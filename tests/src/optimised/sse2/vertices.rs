@@ -26,7 +26,7 @@ use super::{
     directions::Directions,
     four::Four,
     frames::{bisecting, carry, first, leaving, Axes},
-    rings::{write_level, write_scaled_sum, write_sum, Finite},
+    rings::{write_level, write_scaled_sum, write_sum, Bound},
     tables::{Level, Round},
 };
 use crate::{arithmetic::turn, paper::description::Description};
@@ -72,7 +72,7 @@ fn vertex(curve: &[f32], place: usize) -> Four {
     Four::point([x, y, z])
 }
 
-/// The axes at both ends of an open curve: each end's segment, and the frame of the first or last.
+/// The axes at an end of an open curve: its segment, and the frame of the first or last.
 fn end(direction: [f32; 3], frame: Four) -> Axes {
     Axes {
         x: frame,
@@ -82,27 +82,26 @@ fn end(direction: [f32; 3], frame: Four) -> Axes {
 
 /// A pole, or a vertex of a ribbon.
 #[inline(always)]
-fn write_point(stretch: &mut [f32], place: usize, point: Four, finite: &mut Finite) {
+fn write_point(stretch: &mut [f32], place: usize, point: Four, bound: &mut Bound) {
+    bound.note(point);
     let [x, y, z, _] = point.lanes();
-    finite.note([Four::point([x, y, z]); 3]);
     stretch[3 * place..][..3].copy_from_slice(&[x, y, z]);
 }
 
 fn write_ribbon(curve: &[f32], directions: &Directions, width: f32, stretch: &mut [f32]) -> bool {
     let width = Four::all(width);
-    let mut finite = Finite::new();
+    let mut bound = Bound::new();
     let mut pair = |place: usize, frame: Four| {
         let p = vertex(curve, place);
-        write_point(stretch, 2 * place, p, &mut finite);
-        write_point(stretch, 2 * place + 1, p + frame * width, &mut finite);
+        write_point(stretch, 2 * place, p, &mut bound);
+        write_point(stretch, 2 * place + 1, p + frame * width, &mut bound);
     };
-    let frame = first(curve);
-    pair(0, frame);
-    let frame = carry(directions, frame, leaving, |place, axes| {
+    let start = end(directions.direction(0), first(curve));
+    let frame = carry(directions, start, leaving, |place, axes| {
         pair(place, axes.x)
     });
     pair(directions.segments(), frame);
-    finite.are(stretch)
+    bound.are_finite(stretch)
 }
 
 fn write_tube(
@@ -112,19 +111,21 @@ fn write_tube(
     radius: f32,
     stretch: &mut [f32],
 ) -> bool {
-    let round = Round::new(divisions).scaled(radius);
-    let mut finite = Finite::new();
+    let (mut round, mut side) = (Round::unfilled(divisions), Round::unfilled(divisions));
+    round.fill();
+    side.fill_scaled(&round, radius);
+    let mut bound = Bound::new();
     let n = divisions as usize;
     let mut ring = |place: usize, axes: Axes| {
-        let (p, out) = (vertex(curve, place), &mut stretch[3 * place * n..]);
-        let [y, x] = [(axes.y(), round.cosines()), (axes.x, round.sines())];
-        write_sum(out, p, y, x, &mut finite);
+        let (p, x, y) = (vertex(curve, place), axes.x, axes.y());
+        bound.note_ring(p, x, y, radius);
+        let out = &mut stretch[3 * place * n..];
+        write_sum(out, p, (y, side.cosines()), (x, side.sines()));
     };
-    let frame = first(curve);
-    ring(0, end(directions.direction(0), frame));
-    let frame = carry(directions, frame, bisecting, &mut ring);
+    let start = end(directions.direction(0), first(curve));
+    let frame = carry(directions, start, bisecting, &mut ring);
     ring(directions.segments(), end(directions.last(), frame));
-    finite.are(stretch)
+    bound.are_finite(stretch)
 }
 
 fn write_capsule(
@@ -134,40 +135,62 @@ fn write_capsule(
     radius: f32,
     stretch: &mut [f32],
 ) -> bool {
-    let round = Round::new(divisions);
-    let side = round.scaled(radius);
-    let mut finite = Finite::new();
-    let (n, l) = (divisions as usize, longitudes as usize);
-    let ring = 3 * n;
-    // From ring 0 to the top pole.
-    let rings = &mut stretch[3..];
-    let frame = first(curve);
-    let bottom = end(directions.direction(0), frame);
-    let frame = carry(directions, frame, bisecting, |place, axes| {
-        let (p, out) = (vertex(curve, place), &mut rings[ring * (l + place - 1)..]);
-        let [y, x] = [(axes.y(), side.cosines()), (axes.x, side.sines())];
-        write_sum(out, p, y, x, &mut finite);
+    let (mut round, mut side) = (Round::unfilled(divisions), Round::unfilled(divisions));
+    round.fill();
+    side.fill_scaled(&round, radius);
+    let mut bound = Bound::new();
+    let ring = 3 * divisions as usize;
+    let l = longitudes as usize;
+    let bottom = end(directions.direction(0), first(curve));
+    let frame = carry(directions, bottom, bisecting, |place, axes| {
+        // The first vertex has the bottom cap instead.
+        if place > 0 {
+            let (p, x, y) = (vertex(curve, place), axes.x, axes.y());
+            bound.note_ring(p, x, y, radius);
+            let out = &mut stretch[3 + ring * (l + place - 1)..];
+            write_sum(out, p, (y, side.cosines()), (x, side.sines()));
+        }
     });
     let top = end(directions.last(), frame);
-    let [p, q] = [0, directions.segments()].map(|place| vertex(curve, place));
-    // A ring of the bottom and one of the top have the same tilt.
-    for j in 0..l {
-        let (cos, sin) = turn(j as u32, 4 * longitudes);
-        let tilted = round.scaled(radius * cos);
-        let middle = p + bottom.z * Four::all(-radius * sin);
-        let [y, x] = [(bottom.y(), tilted.cosines()), (bottom.x, tilted.sines())];
-        let out = &mut rings[ring * (l - 1 - j)..][..ring];
-        write_sum(out, middle, y, x, &mut finite);
-        let middle = q + top.z * Four::all(radius * sin);
-        let [y, x] = [(top.y(), tilted.cosines()), (top.x, tilted.sines())];
-        let out = &mut rings[ring * (l + directions.segments() - 1 + j)..][..ring];
-        write_sum(out, middle, x, y, &mut finite);
+    let middles = [0, directions.segments()].map(|place| vertex(curve, place));
+    write_caps(&round, longitudes, radius, middles, [bottom, top], stretch);
+    for (middle, axes) in middles.into_iter().zip([bottom, top]) {
+        // Both caps, whose rings have smaller radii.
+        bound.note_ring(middle, axes.x, axes.y(), radius);
+        bound.note_ring(middle, axes.z, axes.z, radius);
     }
+    bound.are_finite(stretch)
+}
+
+/// Rings and poles of both caps. A ring of the bottom and one of the top have the same tilt.
+fn write_caps(
+    round: &Round,
+    longitudes: u32,
+    radius: f32,
+    [p, q]: [Four; 2],
+    [bottom, top]: [Axes; 2],
+    stretch: &mut [f32],
+) {
+    let ring = 3 * round.divisions();
+    let [y, y_top] = [bottom.y(), top.y()];
+    let (below, above) = stretch.split_at_mut(3 + ring * longitudes as usize);
+    let (_, above) = above.split_at_mut(above.len() - 3 - ring * longitudes as usize);
+    let [below_rings, above_rings] = [&mut below[3..], &mut *above];
+    let rings = below_rings.rchunks_exact_mut(ring);
+    let mut tilted = Round::unfilled(round.divisions() as u32);
+    for (j, (below, above)) in (0..).zip(rings.zip(above_rings.chunks_exact_mut(ring))) {
+        let (cos, sin) = turn(j, 4 * longitudes);
+        tilted.fill_scaled(round, radius * cos);
+        let (cosines, sines) = (tilted.cosines(), tilted.sines());
+        let middle = p + bottom.z * Four::all(-radius * sin);
+        write_sum(below, middle, (y, cosines), (bottom.x, sines));
+        let middle = q + top.z * Four::all(radius * sin);
+        write_sum(above, middle, (top.x, sines), (y_top, cosines));
+    }
+    let mut poles = Bound::new();
     let radius = Four::all(radius);
-    write_point(stretch, 0, p - bottom.z * radius, &mut finite);
-    let last = stretch.len() / 3 - 1;
-    write_point(stretch, last, q + top.z * radius, &mut finite);
-    finite.are(stretch)
+    write_point(below, 0, p - bottom.z * radius, &mut poles);
+    write_point(above, above.len() / 3 - 1, q + top.z * radius, &mut poles);
 }
 
 fn write_torus(
@@ -177,18 +200,19 @@ fn write_torus(
     radius: f32,
     stretch: &mut [f32],
 ) -> bool {
-    let round = Round::new(divisions);
-    let mut finite = Finite::new();
+    let mut round = Round::unfilled(divisions);
+    round.fill();
+    let mut bound = Bound::new();
     let n = divisions as usize;
-    let mut ring = |place: usize, axes: Axes| {
-        let (p, out) = (vertex(curve, place), &mut stretch[3 * place * n..]);
-        let [x, y] = [(axes.x, round.cosines()), (axes.y(), round.sines())];
-        write_scaled_sum(out, p, x, y, radius, &mut finite);
+    let ring = |place: usize, axes: Axes| {
+        let (p, x, y) = (vertex(curve, place), axes.x, axes.y());
+        bound.note_ring(p, x, y, radius);
+        let out = &mut stretch[3 * place * n..];
+        write_scaled_sum(out, p, (x, round.cosines()), (y, round.sines()), radius);
     };
-    let frame = first(curve);
-    ring(0, end(directions.direction(0), frame));
-    carry(directions, frame, leaving, ring);
-    finite.are(stretch)
+    let start = end(directions.direction(0), first(curve));
+    carry(directions, start, leaving, ring);
+    bound.are_finite(stretch)
 }
 
 fn write_closed_cylinder(
@@ -196,17 +220,19 @@ fn write_closed_cylinder(
     [radius, low, length]: [f32; 3],
     stretch: &mut [f32],
 ) -> bool {
-    let level = Level::new(divisions, radius);
-    let mut finite = Finite::new();
+    let mut level = Level::unfilled();
+    level.fill(divisions, radius);
+    let mut bound = Bound::new();
+    bound.note(Four::all(radius));
     let n = divisions as usize;
     let step = length / layers as f32;
     for g in 0..=layers as usize {
         let height = low + step * g as f32;
-        let out = &mut stretch[3 + 3 * n * g..];
-        write_level(out, level.blocks(), height, &mut finite);
+        bound.note(Four::all(height));
+        write_level(&mut stretch[3 + 3 * n * g..], level.blocks(), height);
     }
-    write_point(stretch, 0, Four::point([0.0, low, 0.0]), &mut finite);
+    write_point(stretch, 0, Four::point([0.0, low, 0.0]), &mut bound);
     let top = Four::point([0.0, low + length, 0.0]);
-    write_point(stretch, stretch.len() / 3 - 1, top, &mut finite);
-    finite.are(stretch)
+    write_point(stretch, stretch.len() / 3 - 1, top, &mut bound);
+    bound.are_finite(stretch)
 }

@@ -5,29 +5,38 @@ use super::{
     tables::{registers, Block},
 };
 
-/// Notes whether every coordinate that was written is finite: a sum that has met an infinity or a NaN stays one.
-/// The sum may overflow by itself, so that finite coordinates may have to be looked at one by one.
+/// Notes for whole rings at a time whether every coordinate is finite, by a bound: what a ring's middle and axes
+/// cannot take past a quarter of the largest number needs no look at each coordinate.
 #[derive(Clone, Copy)]
-pub struct Finite([Four; 3]);
+pub struct Bound {
+    exceeded: Four,
+}
 
-impl Finite {
+impl Bound {
     #[inline(always)]
-    pub fn new() -> Finite {
-        Finite([Four::all(0.0); 3])
-    }
-
-    #[inline(always)]
-    pub fn note(&mut self, coordinates: [Four; 3]) {
-        for (sum, coordinates) in self.0.iter_mut().zip(coordinates) {
-            *sum = *sum + coordinates;
+    pub fn new() -> Bound {
+        Bound {
+            exceeded: Four::all(0.0),
         }
     }
 
-    /// Whether the coordinates, all of which have been noted, are finite.
-    pub fn are(self, coordinates: &[f32]) -> bool {
-        let sums = self.0.map(Four::lanes);
-        let finite = sums.as_flattened().iter().all(|sum| sum.is_finite());
-        finite || coordinates.iter().all(|x| x.is_finite())
+    /// A ring, the factors of whose axes are at most `reach` or round to a little more.
+    #[inline(always)]
+    pub fn note_ring(&mut self, middle: Four, first: Four, second: Four, reach: f32) {
+        let axes = (first.magnitude() + second.magnitude()) * Four::all(reach);
+        self.note(middle.magnitude() + axes);
+    }
+
+    #[inline(always)]
+    pub fn note(&mut self, coordinates: Four) {
+        let most = Four::all(f32::MAX / 4.0);
+        self.exceeded = self.exceeded | coordinates.magnitude().is_not_below(most);
+    }
+
+    /// Whether the coordinates are finite; they are looked at where the bound does not tell. The fourth lanes hold
+    /// anything.
+    pub fn are_finite(self, coordinates: &[f32]) -> bool {
+        self.exceeded.signs() & 0b111 == 0 || coordinates.iter().all(|x| x.is_finite())
     }
 }
 
@@ -38,14 +47,11 @@ fn write_blocks<T>(
     out: &mut [f32],
     blocks: impl ExactSizeIterator<Item = T>,
     block: impl Fn(T) -> [Four; 3],
-    finite: &mut Finite,
 ) {
-    let mut noted = *finite;
     let (whole, rest) = out.as_chunks_mut::<12>();
     let mut whole = whole.iter_mut();
     for from in blocks {
         let coordinates = block(from);
-        noted.note(coordinates);
         match whole.next() {
             Some(to) => store(coordinates, to),
             None => {
@@ -55,7 +61,6 @@ fn write_blocks<T>(
             }
         }
     }
-    *finite = noted;
 }
 
 #[inline(always)]
@@ -73,7 +78,6 @@ pub fn write_sum(
     middle: Four,
     (first, factors): (Four, &[Block]),
     (second, factors_after): (Four, &[Block]),
-    finite: &mut Finite,
 ) {
     let (middle, first, second) = (middle.repeated(), first.repeated(), second.repeated());
     let block = |(before, after): (&Block, &Block)| {
@@ -81,7 +85,7 @@ pub fn write_sum(
         let sum = |k: usize| (middle[k] + first[k] * before[k]) + second[k] * after[k];
         [sum(0), sum(1), sum(2)]
     };
-    write_blocks(out, factors.iter().zip(factors_after), block, finite);
+    write_blocks(out, factors.iter().zip(factors_after), block);
 }
 
 /// middle + (first axis · factor + second axis · factor) · radius.
@@ -92,7 +96,6 @@ pub fn write_scaled_sum(
     (first, factors): (Four, &[Block]),
     (second, factors_after): (Four, &[Block]),
     radius: f32,
-    finite: &mut Finite,
 ) {
     let (middle, first, second) = (middle.repeated(), first.repeated(), second.repeated());
     let radius = Four::all(radius);
@@ -101,17 +104,17 @@ pub fn write_scaled_sum(
         let sum = |k: usize| middle[k] + (first[k] * before[k] + second[k] * after[k]) * radius;
         [sum(0), sum(1), sum(2)]
     };
-    write_blocks(out, factors.iter().zip(factors_after), block, finite);
+    write_blocks(out, factors.iter().zip(factors_after), block);
 }
 
 /// A level's coordinates with the height put in, where they have +0.
 #[inline(always)]
-pub fn write_level(out: &mut [f32], level: &[Block], height: f32, finite: &mut Finite) {
+pub fn write_level(out: &mut [f32], level: &[Block], height: f32) {
     let heights = Four::point([0.0, height, 0.0]).repeated();
     let block = |level: &Block| {
         let level = registers(level);
         let put = |k: usize| level[k] | heights[k];
         [put(0), put(1), put(2)]
     };
-    write_blocks(out, level.iter(), block, finite);
+    write_blocks(out, level.iter(), block);
 }

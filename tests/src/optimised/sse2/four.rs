@@ -1,7 +1,7 @@
 //! Four f32 in one register of SSE2, which every x86_64 machine has. Each operation rounds each lane once.
 
 use std::{
-    arch::x86_64::*,
+    arch::{asm, x86_64::*},
     ops::{Add, BitAnd, BitOr, Div, Mul, Sub},
 };
 
@@ -89,6 +89,27 @@ impl Four {
     #[inline(always)]
     pub fn is_below(self, bound: Four) -> Four {
         unsafe { Four(_mm_cmplt_ps(self.0, bound.0)) }
+    }
+
+    /// All bits of a lane set where it is not below the bound, or a NaN.
+    #[inline(always)]
+    pub fn is_not_below(self, bound: Four) -> Four {
+        unsafe { Four(_mm_cmpnlt_ps(self.0, bound.0)) }
+    }
+
+    /// The same, worked out here: the compiler would otherwise put it off to where it is used.
+    #[inline(always)]
+    pub fn at_once(self) -> Four {
+        let mut register = self.0;
+        unsafe {
+            asm!("/* {0} */", inout(xmm_reg) register, options(nomem, nostack, preserves_flags));
+        }
+        Four(register)
+    }
+
+    #[inline(always)]
+    pub fn magnitude(self) -> Four {
+        self & Four::all(f32::from_bits(0x7FFFFFFF))
     }
 
     /// The sign bits of the lanes.

@@ -42,62 +42,66 @@ pub struct Round {
     cosines: Blocks,
     sines: Blocks,
     divisions: usize,
+    filled: usize,
 }
 
 impl Round {
+    /// Room for the directions of so many divisions, which are then filled in place.
     #[inline(always)]
-    pub fn new(divisions: u32) -> Round {
-        let mut round = Round {
+    pub fn unfilled(divisions: u32) -> Round {
+        Round {
             cosines: Blocks::of_anything(),
             sines: Blocks::of_anything(),
             divisions: divisions as usize,
-        };
-        for place in 0..round.blocks() {
-            let turns = four_turns(place, divisions);
-            round.cosines.set(place, thrice(turns.map(|pair| pair.0)));
-            round.sines.set(place, thrice(turns.map(|pair| pair.1)));
+            filled: 0,
         }
-        round
     }
 
-    #[inline(always)]
-    pub fn scaled(&self, scale: f32) -> Round {
-        let mut scaled = Round {
-            cosines: Blocks::of_anything(),
-            sines: Blocks::of_anything(),
-            divisions: self.divisions,
-        };
-        let blocks = self.cosines().iter().zip(self.sines()).enumerate();
+    pub fn fill(&mut self) {
+        let divisions = self.divisions as u32;
+        for place in 0..self.divisions.div_ceil(4) {
+            let (mut cosines, mut sines) = ([0.0; 4], [0.0; 4]);
+            for vertex in 0..4 {
+                (cosines[vertex], sines[vertex]) = turn_in_block(place, vertex, divisions);
+            }
+            self.cosines.set(place, thrice(cosines));
+            self.sines.set(place, thrice(sines));
+        }
+        self.filled = self.divisions.div_ceil(4);
+    }
+
+    /// The other's cosines and sines times a scale.
+    pub fn fill_scaled(&mut self, other: &Round, scale: f32) {
+        let blocks = other.cosines().iter().zip(other.sines()).enumerate();
         for (place, (cosines, sines)) in blocks {
-            scaled.cosines.set(place, cosines.map(|cos| scale * cos));
-            scaled.sines.set(place, sines.map(|sin| scale * sin));
+            self.cosines.set(place, cosines.map(|cos| scale * cos));
+            self.sines.set(place, sines.map(|sin| scale * sin));
         }
-        scaled
+        self.filled = other.filled;
     }
 
-    fn blocks(&self) -> usize {
-        self.divisions.div_ceil(4)
+    pub fn divisions(&self) -> usize {
+        self.divisions
     }
 
     #[inline(always)]
     pub fn cosines(&self) -> &[Block] {
-        // SAFETY: both makers set as many blocks.
-        unsafe { self.cosines.first(self.blocks()) }
+        // SAFETY: as many blocks have been set.
+        unsafe { self.cosines.first(self.filled) }
     }
 
     #[inline(always)]
     pub fn sines(&self) -> &[Block] {
-        // SAFETY: both makers set as many blocks.
-        unsafe { self.sines.first(self.blocks()) }
+        // SAFETY: as many blocks have been set.
+        unsafe { self.sines.first(self.filled) }
     }
 }
 
-/// The directions of a block's vertices.
+/// The direction of a block's vertex.
 #[inline(always)]
-fn four_turns(place: usize, divisions: u32) -> [(f32, f32); 4] {
-    let first = 4 * place as u32;
-    [first, first + 1, first + 2, first + 3]
-        .map(|k| turn(if k < divisions { k } else { k - divisions }, divisions))
+fn turn_in_block(place: usize, vertex: usize, divisions: u32) -> (f32, f32) {
+    let k = (4 * place + vertex) as u32;
+    turn(if k < divisions { k } else { k - divisions }, divisions)
 }
 
 #[inline(always)]
@@ -108,29 +112,35 @@ fn thrice([a, b, c, d]: [f32; 4]) -> Block {
 /// The coordinates of a closed cylinder's level, with +0 in place of the height.
 pub struct Level {
     coordinates: Blocks,
-    blocks: usize,
+    filled: usize,
 }
 
 impl Level {
     #[inline(always)]
-    pub fn new(divisions: u32, radius: f32) -> Level {
-        let mut level = Level {
+    pub fn unfilled() -> Level {
+        Level {
             coordinates: Blocks::of_anything(),
-            blocks: divisions.div_ceil(4) as usize,
-        };
-        for place in 0..level.blocks {
-            let turns = four_turns(place, divisions);
-            let points = turns.map(|(cos, sin)| [radius * cos, 0.0, radius * sin]);
-            let block = points.as_flattened().try_into().expect("4 points");
-            level.coordinates.set(place, block);
+            filled: 0,
         }
-        level
+    }
+
+    pub fn fill(&mut self, divisions: u32, radius: f32) {
+        let blocks = divisions.div_ceil(4) as usize;
+        for place in 0..blocks {
+            let mut block = [0.0; 12];
+            for (vertex, point) in block.as_chunks_mut::<3>().0.iter_mut().enumerate() {
+                let (cos, sin) = turn_in_block(place, vertex, divisions);
+                *point = [radius * cos, 0.0, radius * sin];
+            }
+            self.coordinates.set(place, block);
+        }
+        self.filled = blocks;
     }
 
     #[inline(always)]
     pub fn blocks(&self) -> &[Block] {
-        // SAFETY: the maker sets as many blocks.
-        unsafe { self.coordinates.first(self.blocks) }
+        // SAFETY: as many blocks have been set.
+        unsafe { self.coordinates.first(self.filled) }
     }
 }
 

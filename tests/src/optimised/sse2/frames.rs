@@ -41,35 +41,33 @@ pub fn leaving(_before: [Four; 3], after: [Four; 3]) -> [Four; 3] {
     after
 }
 
-/// Visits each vertex at which two segments meet, in order, with the axis along the curve as it is asked for.
-/// Gives the last frame. A visit comes after the next step, so that the machine can do both at once.
+/// Visits the first vertex and each at which two segments meet, in order, with the axis along the curve as it is
+/// asked for. Gives the last frame. A visit comes after the next step, so that the machine can do both at once.
 #[inline(always)]
 pub fn carry(
     directions: &Directions,
-    mut frame: Four,
+    start: Axes,
     along: impl Fn([Four; 3], [Four; 3]) -> [Four; 3],
     mut visit: impl FnMut(usize, Axes),
 ) -> Four {
     let segments = directions.segments();
-    let mut waiting = None;
-    for start in (1..segments).step_by(4) {
-        let (before, after) = (directions.four(start - 1), directions.four(start));
+    let mut waiting = start;
+    for vertex in (1..segments).step_by(4) {
+        let (before, after) = (directions.four(vertex - 1), directions.four(vertex));
         let c = dots(before, after);
         let [q_x, q_y, q_z] = crosses(before, after);
         let [z_x, z_y, z_z] = along(before, after);
         let steps = transposed([q_x, q_y, q_z, c]).into_iter();
         let axes = transposed([z_x, z_y, z_z, Four::all(1.0) + c]);
-        for (place, (step, z)) in steps.zip(axes).take(segments - start).enumerate() {
-            frame = carried(frame, step, step.lane_in_all::<3>(), z.lane_in_all::<3>());
-            if let Some((vertex, axes)) = waiting.replace((start + place, Axes { x: frame, z })) {
-                visit(vertex, axes);
-            }
+        for (place, (step, z)) in steps.zip(axes).take(segments - vertex).enumerate() {
+            let [c, opening] = [step.lane_in_all::<3>(), z.lane_in_all::<3>()];
+            let x = carried(waiting.x, step, c, opening).at_once();
+            visit(vertex + place - 1, waiting);
+            waiting = Axes { x, z };
         }
     }
-    if let Some((vertex, axes)) = waiting {
-        visit(vertex, axes);
-    }
-    frame
+    visit(segments - 1, waiting);
+    waiting.x
 }
 
 /// Document 01's transport step, of q, c and 1 + c.
