@@ -2,7 +2,7 @@
 
 use crate::{
     del_msh::{polyline3, polyloop3, trimesh3_primitive},
-    optimised::{Form, Sse2},
+    optimised::{are_finite, Form, Sse2},
     paper::{
         description::{Description, Refusal},
         ledger::Alone,
@@ -92,7 +92,7 @@ impl Form for Source {
         let (triangles, vertices) = body(description, curve);
         self.triangles = triangles;
         out.copy_from_slice(vertices.as_flattened());
-        out.iter().fold(true, |finite, x| finite & x.is_finite())
+        are_finite(out)
     }
 
     fn write_triangles(&mut self, _body: Body, first: u32, out: &mut [u32]) {

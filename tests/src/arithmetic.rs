@@ -74,7 +74,7 @@ pub fn turn(k: u32, n: u32) -> (f32, f32) {
     }
     let octant = 8 * k / n;
     let remainder = 8 * k % n;
-    let y = if octant % 2 == 0 {
+    let y = if octant.is_multiple_of(2) {
         remainder as f32 / n as f32
     } else {
         (n - remainder) as f32 / n as f32

@@ -12,6 +12,6 @@ mod table;
 mod triangles;
 
 pub use form::{add, check, Form};
-pub use plain::Plain;
+pub use plain::{are_finite, Plain};
 pub use sse2::Sse2;
 pub use table::clear;

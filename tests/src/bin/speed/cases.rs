@@ -39,17 +39,35 @@ impl Case {
     }
 }
 
-/// Capsules of 32 divisions and 8 longitudes along ever longer curves.
-pub fn growth() -> Vec<Case> {
-    let capsule = |vertices| Case {
-        name: format!("capsule, {vertices} curve vertices"),
+/// The titles and cases of the table.
+pub fn all() -> Vec<(&'static str, Vec<Case>)> {
+    let growth = [10, 30, 100, 300, 1_000, 3_000, 4_096].map(capsule);
+    vec![
+        (
+            "a capsule, 32 divisions, L 8, curve vertices:",
+            growth.into(),
+        ),
+        (
+            "one body, 24 divisions, 200 curve vertices or layers:",
+            kinds(),
+        ),
+        (
+            "a set, 8 to 24 divisions, 10 to 60 curve vertices or layers:",
+            vec![set()],
+        ),
+    ]
+}
+
+/// 32 divisions and 8 longitudes along a curve of so many vertices.
+pub fn capsule(vertices: u32) -> Case {
+    Case {
+        name: format!("{vertices}"),
         list: vec![input(3, [32, 8], vertices)],
-    };
-    [10, 30, 100, 300, 1_000, 3_000, 4_096].map(capsule).into()
+    }
 }
 
 /// One body of each kind: 200 curve vertices or layers, 24 divisions, 8 longitudes.
-pub fn kinds() -> Vec<Case> {
+fn kinds() -> Vec<Case> {
     let body = |(kind, name): (u32, &str)| Case {
         name: name.to_string(),
         list: vec![input(kind, [24, if kind == 5 { 200 } else { 8 }], 200)],
@@ -57,20 +75,19 @@ pub fn kinds() -> Vec<Case> {
     KINDS.map(body).into()
 }
 
-/// A set of 64 bodies of all kinds: 10 to 60 curve vertices or layers, 8 to 24 divisions, 2 to 6 longitudes.
-pub fn set() -> Case {
+/// 64 bodies of all kinds, 2 to 6 longitudes.
+fn set() -> Case {
     let mut generator = Generator::new(39);
     let body = |place: u32| {
         let (kind, run) = (1 + place % 5, generator.between(10, 60));
-        let longitudes = if kind == 5 {
-            run
-        } else {
-            generator.between(2, 6)
+        let longitudes = match kind {
+            5 => run,
+            _ => generator.between(2, 6),
         };
         input(kind, [generator.between(8, 24), longitudes], run)
     };
     Case {
-        name: "64 bodies of all kinds".to_string(),
+        name: "64 of all kinds".to_string(),
         list: (0..64).map(body).collect(),
     }
 }

@@ -1,8 +1,11 @@
-//! Times that are taken in turn, so that a disturbed stretch of time falls on all.
+//! Times of many rounds.
 
-use std::time::{Duration, Instant};
+use std::{
+    hint::black_box,
+    time::{Duration, Instant},
+};
 
-/// Microseconds: the 10th percentile and the median of many rounds.
+/// Microseconds: the 10th percentile and the median.
 #[derive(Clone, Copy)]
 pub struct Times {
     pub low: f64,
@@ -21,19 +24,20 @@ impl Times {
 }
 
 /// How long a call takes.
-pub fn time(call: impl FnOnce()) -> Duration {
+pub fn time<T>(call: impl FnOnce() -> T) -> Duration {
     let start = Instant::now();
-    call();
+    black_box(call());
     start.elapsed()
 }
 
-/// Calls `round` with ascending numbers until the time is over, though not fewer times than are named.
-pub fn repeat(least: usize, span: Duration, mut round: impl FnMut(usize)) {
+/// Calls `round` with ascending numbers until the time is over, though not fewer times than are named. Gives how
+/// often.
+pub fn repeat(least: usize, span: Duration, mut round: impl FnMut(usize)) -> usize {
     let start = Instant::now();
-    for number in 0.. {
-        if number >= least && start.elapsed() > span {
-            break;
-        }
-        round(number);
+    let mut rounds = 0;
+    while rounds < least || start.elapsed() < span {
+        round(rounds);
+        rounds += 1;
     }
+    rounds
 }

@@ -15,84 +15,92 @@ use togbefulo_tests::{
 
 /// A way of doing the calls of the set.
 pub struct Side {
-    pub clear: fn(&mut [u32]) -> u32,
-    pub add: fn(&Input, &mut Buffers) -> u32,
+    pub name: &'static str,
+    clear: fn(&mut [u32]) -> u32,
+    add: fn(&Input, &mut Buffers) -> u32,
 }
 
+/// The proved code, Rust written for speed in its two forms, and the source with the same checks.
 pub const SIDES: [Side; 4] = [
     Side {
+        name: "proved",
         clear: library::clear,
         add: library::add,
     },
     Side {
-        clear: optimised::clear,
-        add: optimised::add::<Plain>,
-    },
-    Side {
+        name: "SSE2",
         clear: optimised::clear,
         add: optimised::add::<Sse2>,
     },
     Side {
+        name: "plain",
+        clear: optimised::clear,
+        add: optimised::add::<Plain>,
+    },
+    Side {
+        name: "source",
         clear: optimised::clear,
         add: optimised::add::<Source>,
     },
 ];
 
+impl Side {
+    /// Zeros in the vertex and the triangle buffer, and the call clear on the table.
+    fn clear(&self, buffers: &mut Buffers) -> u32 {
+        buffers.vertices.fill(0.0);
+        buffers.triangles.fill(0);
+        (self.clear)(&mut buffers.table)
+    }
+
+    /// Every addition of the list. Gives how many were refused.
+    fn add_all(&self, list: &[Input], buffers: &mut Buffers) -> usize {
+        let answers = list.iter().map(|input| (self.add)(input, buffers));
+        answers.filter(|&answer| answer != 0).count()
+    }
+}
+
 /// The times of the clearing and, for each side, of the additions.
 pub struct Measured {
+    pub rounds: usize,
     pub clearing: Times,
     pub adding: [Times; SIDES.len()],
 }
 
-const LEAST_ROUNDS: usize = 50;
+const LEAST_ROUNDS: usize = 100;
 
-/// All sides fill the same buffers in turn, each after clearing them. What the first one leaves in the first round
-/// all have to leave there, and in the last round again.
+/// All sides fill the same buffers in turn, each after clearing them, and each round begins with another side.
+/// Before and after, what they leave is compared.
 pub fn measure(case: &Case, span: Duration) -> Result<Measured, String> {
     let mut buffers = case.buffers();
-    let mut expected = None;
-    let mut compare = |buffers: &Buffers| -> Result<(), String> {
-        let expected = expected.get_or_insert_with(|| buffers.clone());
-        let same = buffers.is_same(expected);
-        same.then_some(())
-            .ok_or(format!("{}: the sides differ", case.name))
-    };
-    for side in &SIDES {
-        clear(side, &mut buffers);
-        add_all(side, case, &mut buffers);
-        compare(&buffers)?;
-    }
+    compare(case, &mut buffers)?;
     let mut clearing = Vec::new();
     let mut adding = [const { Vec::new() }; SIDES.len()];
-    repeat(LEAST_ROUNDS, span, |round| {
+    let rounds = repeat(LEAST_ROUNDS, span, |round| {
         for turn in 0..SIDES.len() {
-            let side = (round + turn) % SIDES.len();
-            clearing.push(time(|| clear(&SIDES[side], black_box(&mut buffers))));
-            let taken = time(|| add_all(&SIDES[side], case, black_box(&mut buffers)));
-            adding[side].push(taken);
+            let place = (round + turn) % SIDES.len();
+            let side = &SIDES[place];
+            clearing.push(time(|| side.clear(black_box(&mut buffers))));
+            adding[place].push(time(|| side.add_all(&case.list, black_box(&mut buffers))));
         }
     });
-    for side in &SIDES {
-        clear(side, &mut buffers);
-        add_all(side, case, &mut buffers);
-        compare(&buffers)?;
-    }
+    compare(case, &mut buffers)?;
     Ok(Measured {
+        rounds,
         clearing: Times::of(clearing),
         adding: adding.map(Times::of),
     })
 }
 
-/// Zeros in the vertex and the triangle buffer, and the call clear on the table.
-fn clear(side: &Side, buffers: &mut Buffers) {
-    buffers.vertices.fill(0.0);
-    buffers.triangles.fill(0);
-    assert_eq!((side.clear)(&mut buffers.table), 0);
-}
-
-/// Every addition is accepted.
-fn add_all(side: &Side, case: &Case, buffers: &mut Buffers) {
-    for input in &case.list {
-        assert_eq!((side.add)(input, buffers), 0);
+/// No side refuses an addition, and all leave the same in all three buffers.
+fn compare(case: &Case, buffers: &mut Buffers) -> Result<(), String> {
+    let mut proved: Option<Buffers> = None;
+    for side in &SIDES {
+        let refused = side.clear(buffers) as usize + side.add_all(&case.list, buffers);
+        let proved = proved.get_or_insert_with(|| buffers.clone());
+        if refused > 0 || !buffers.is_same(proved) {
+            let (case, side) = (&case.name, side.name);
+            return Err(format!("{case}: {side} differs or refuses"));
+        }
     }
+    Ok(())
 }

@@ -10,6 +10,12 @@ use crate::{
     paper::description::{Description, Refusal},
 };
 
+/// Looks at all values whatever the first ones are, so that several can be looked at at once.
+pub fn are_finite(values: &[f32]) -> bool {
+    let finite = |x: &f32| x.abs() < f32::INFINITY;
+    values.iter().fold(true, |all, x| all & finite(x))
+}
+
 /// The directions of the curve's segments.
 pub struct Plain(Vec<Point>);
 
@@ -25,7 +31,6 @@ impl Form for Plain {
 
     fn write_vertices(&mut self, description: Description, curve: &[f32], out: &mut [f32]) -> bool {
         vertices::write(description, curve, &self.0, out);
-        // Without a way out in between, so that many are looked at at once.
-        out.iter().fold(true, |finite, x| finite & x.is_finite())
+        are_finite(out)
     }
 }
