@@ -10,7 +10,7 @@ use togbefulo_tests::{
     met::Met,
     optimised::{self, Plain, Sse2},
     paper::description::Input,
-    readings,
+    readings, tables,
 };
 
 /// Every number that an addition can get, 1 last.
@@ -52,6 +52,34 @@ fn lists_of_additions() {
     println!("lists of additions, {met}");
     assert_eq!(met.answers(), ANSWERS);
 }
+
+/// Tables of which one word may be any.
+#[test]
+fn damaged_tables() {
+    let mut generator = Generator::new(40);
+    let mut met = Met::default();
+    for _ in 0..3_000 {
+        let bodies = generator.between(0, 64);
+        let rows = tables::rows(&mut generator, bodies as usize);
+        let mut lent = tables::over_garbage(&mut generator, &rows, SPARE);
+        if generator.one_in(2) {
+            let place = generator.between(0, 6 * bodies) as usize;
+            lent.table[place] = generator.word() >> generator.one_of(&[0, 16, 26, 29]);
+        }
+        let kind = generator.between(1, 5);
+        let input = additions::small(&mut generator, kind);
+        compare(&input, &mut lent, &mut met);
+    }
+    println!("damaged tables, {met}");
+    assert_eq!(met.answers(), [0, 1, 2, 3, 4]);
+}
+
+/// Room for most bodies.
+const SPARE: Lengths = Lengths {
+    table: 6,
+    vertices: 100,
+    triangles: 200,
+};
 
 /// Sets that are full to the last element, so that nothing may be written past a body.
 #[test]

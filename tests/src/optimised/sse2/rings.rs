@@ -43,23 +43,23 @@ impl Bound {
 /// Writes a ring to the front of `out`, whose rest belongs to the same body and is written later, so that a last
 /// block may reach beyond the ring. Where `out` ends with the ring, the block is cut off.
 #[inline(always)]
-fn write_blocks<T>(
+fn write_blocks(
     out: &mut [f32],
-    blocks: impl ExactSizeIterator<Item = T>,
-    block: impl Fn(T) -> [Four; 3],
+    first: &[Block],
+    second: &[Block],
+    block: impl Fn([Four; 3], [Four; 3]) -> [Four; 3],
 ) {
     let (whole, rest) = out.as_chunks_mut::<12>();
-    let mut whole = whole.iter_mut();
-    for from in blocks {
-        let coordinates = block(from);
-        match whole.next() {
-            Some(to) => store(coordinates, to),
-            None => {
-                let mut last = [0.0; 12];
-                store(coordinates, &mut last);
-                rest.copy_from_slice(&last[..rest.len()]);
-            }
-        }
+    let count = whole.len().min(first.len());
+    let places = whole[..count].iter_mut();
+    for ((to, first), second) in places.zip(&first[..count]).zip(&second[..count]) {
+        store(block(registers(first), registers(second)), to);
+    }
+    if count < first.len() {
+        let mut last = [0.0; 12];
+        let block = block(registers(&first[count]), registers(&second[count]));
+        store(block, &mut last);
+        rest.copy_from_slice(&last[..rest.len()]);
     }
 }
 
@@ -80,12 +80,10 @@ pub fn write_sum(
     (second, factors_after): (Four, &[Block]),
 ) {
     let (middle, first, second) = (middle.repeated(), first.repeated(), second.repeated());
-    let block = |(before, after): (&Block, &Block)| {
-        let (before, after) = (registers(before), registers(after));
+    write_blocks(out, factors, factors_after, |before, after| {
         let sum = |k: usize| (middle[k] + first[k] * before[k]) + second[k] * after[k];
         [sum(0), sum(1), sum(2)]
-    };
-    write_blocks(out, factors.iter().zip(factors_after), block);
+    });
 }
 
 /// middle + (first axis · factor + second axis · factor) · radius.
@@ -99,22 +97,18 @@ pub fn write_scaled_sum(
 ) {
     let (middle, first, second) = (middle.repeated(), first.repeated(), second.repeated());
     let radius = Four::all(radius);
-    let block = |(before, after): (&Block, &Block)| {
-        let (before, after) = (registers(before), registers(after));
+    write_blocks(out, factors, factors_after, |before, after| {
         let sum = |k: usize| middle[k] + (first[k] * before[k] + second[k] * after[k]) * radius;
         [sum(0), sum(1), sum(2)]
-    };
-    write_blocks(out, factors.iter().zip(factors_after), block);
+    });
 }
 
 /// A level's coordinates with the height put in, where they have +0.
 #[inline(always)]
 pub fn write_level(out: &mut [f32], level: &[Block], height: f32) {
     let heights = Four::point([0.0, height, 0.0]).repeated();
-    let block = |level: &Block| {
-        let level = registers(level);
+    write_blocks(out, level, level, |level, _| {
         let put = |k: usize| level[k] | heights[k];
         [put(0), put(1), put(2)]
-    };
-    write_blocks(out, level.iter(), block);
+    });
 }
