@@ -7,26 +7,23 @@ mod parts;
 mod sides;
 
 use cases::Case;
-use sides::{measure, Measured};
+use sides::{measure, Measured, SIDES};
 use std::{env, error::Error, fs, time::Duration};
 
 /// For each line.
 const SPAN: Duration = Duration::from_millis(2_500);
 
-const HEAD: &str = "                               clearing     proved            SSE2            plain           source     proved by  ns a vertex
-                      vertices  10th     10th  median    10th  median    10th  median    10th  median  SSE2 plain  proved SSE2";
+const COMMAND: &str = "cargo run --release --offline --locked --manifest-path tests/Cargo.toml \
+     --target-dir target/tests --bin speed";
 
 fn main() -> Result<(), Box<dyn Error>> {
-    if env::args()
-        .nth(1)
-        .is_some_and(|argument| argument == "parts")
-    {
+    if env::args().nth(1).as_deref() == Some("parts") {
         parts::print(&cases::capsule(1_000), SPAN);
         return Ok(());
     }
+    println!("{COMMAND}");
     println!("{}, {}", processor()?, env!("RUSTC_VERSION"));
-    println!("microseconds, 10th percentile and median of all rounds; SSE2, plain: Rust written for speed");
-    println!("{HEAD}");
+    print_head();
     let mut rounds = Vec::new();
     for (title, cases) in cases::all() {
         println!("{title}");
@@ -36,26 +33,42 @@ fn main() -> Result<(), Box<dyn Error>> {
             rounds.push(measured.rounds);
         }
     }
-    let [least, most] = [rounds.iter().min(), rounds.iter().max()].map(|n| n.expect("some case"));
-    println!(
-        "{least} to {most} rounds a line, in turn; all sides left the same in all three buffers"
-    );
+    rounds.sort();
+    let [least, most] = [rounds[0], rounds[rounds.len() - 1]];
+    println!("{least} to {most} rounds a line; all sides left the same in all three buffers");
     Ok(())
+}
+
+fn print_head() {
+    println!("microseconds, 10th percentile and median");
+    print!("{:18} {:8} {:>8}", "", "", "clearing");
+    for side in &SIDES {
+        print!(" {:>15}", side.name);
+    }
+    println!(" {:>12} {:>13}", "proved by", "ns a vertex");
+    print!("{:18} {:>8} {:>8}", "", "vertices", "10th");
+    for _ in &SIDES {
+        print!(" {:>7} {:>7}", "10th", "median");
+    }
+    println!(
+        " {:>6} {:>5} {:>7} {:>5}",
+        "SSE2", "plain", "proved", "SSE2"
+    );
 }
 
 fn print(case: &Case, measured: &Measured) {
     let vertices = case.counts()[0];
     print!(
-        "  {:19} {vertices:8} {:5.1} ",
+        "  {:16} {vertices:8} {:8.1}",
         case.name, measured.clearing.low
     );
     for times in measured.adding {
         print!(" {:7.1} {:7.1}", times.low, times.median);
     }
     let [proved, sse2, plain, _] = measured.adding.map(|times| times.low);
-    print!(" {:5.2} {:5.2}", proved / sse2, proved / plain);
+    print!(" {:6.2} {:5.2}", proved / sse2, proved / plain);
     let a_vertex = |time: f64| 1_000.0 * time / vertices as f64;
-    println!("  {:6.2} {:4.2}", a_vertex(proved), a_vertex(sse2));
+    println!(" {:7.2} {:5.2}", a_vertex(proved), a_vertex(sse2));
 }
 
 fn processor() -> Result<String, Box<dyn Error>> {

@@ -39,17 +39,18 @@ pub fn print(case: &Case, span: Duration) {
         }
     });
     let times = times.map(|parts| parts.map(|times| Times::of(times).low));
-    println!(
-        "{}: microseconds a part, 10th percentile of {rounds} rounds",
-        case.name
-    );
-    println!("  part         proved     SSE2    plain  proved/SSE2  proved/plain");
+    println!("capsule, {} curve vertices, 32 divisions, L 8", case.name);
+    println!("microseconds, 10th percentile of {rounds} rounds");
+    println!("  part         proved     SSE2    plain");
     for (place, part) in PARTS.into_iter().enumerate() {
-        let [proved, sse2, plain] = times.map(|parts| parts[place]);
-        print!("  {part:<10} {proved:8.1} {sse2:8.1} {plain:8.1}");
-        println!("  {:11.2}  {:12.2}", proved / sse2, proved / plain);
+        print_line(part, times.map(|parts| parts[place]));
     }
-    println!("  finite: of SSE2 and plain, part of the vertices");
+    print_line("together", times.map(|parts| parts.iter().sum()));
+    println!("  SSE2 and plain tell in the part of the vertices whether these are finite");
+}
+
+fn print_line(name: &str, [proved, sse2, plain]: [f64; 3]) {
+    println!("  {name:<10} {proved:8.1} {sse2:8.1} {plain:8.1}");
 }
 
 fn proved(input: &Input, body: Body, buffers: &mut Buffers) -> Durations {

@@ -39,20 +39,17 @@ impl Directions {
     pub fn four(&self, at: usize) -> [Four; 3] {
         assert!(at + 4 <= self.written);
         let component = |axis: usize| {
-            let start = self.components[axis].as_ptr();
             // SAFETY: the first `written` floats of each component have been written.
-            Four::load(unsafe { &*start.add(at).cast::<[f32; 4]>() })
+            let four = unsafe { self.components[axis][at..at + 4].assume_init_ref() };
+            Four::load(four.try_into().expect("4 floats"))
         };
         [component(0), component(1), component(2)]
     }
 
     #[inline(always)]
     fn push(&mut self, four: [Four; 3]) {
-        assert!(self.written + 4 <= ROOM);
-        for (axis, component) in four.into_iter().enumerate() {
-            let start = self.components[axis].as_mut_ptr();
-            // SAFETY: the assertion above; any bits are an f32.
-            component.store(unsafe { &mut *start.add(self.written).cast::<[f32; 4]>() });
+        for (component, lanes) in self.components.iter_mut().zip(four) {
+            component[self.written..][..4].write_copy_of_slice(&lanes.lanes());
         }
         self.written += 4;
     }

@@ -82,8 +82,7 @@ fn end(direction: [f32; 3], frame: Four) -> Axes {
 
 /// A pole, or a vertex of a ribbon.
 #[inline(always)]
-fn write_point(stretch: &mut [f32], place: usize, point: Four, bound: &mut Bound) {
-    bound.note(point);
+fn write_point(stretch: &mut [f32], place: usize, point: Four) {
     let [x, y, z, _] = point.lanes();
     stretch[3 * place..][..3].copy_from_slice(&[x, y, z]);
 }
@@ -93,8 +92,10 @@ fn write_ribbon(curve: &[f32], directions: &Directions, width: f32, stretch: &mu
     let mut bound = Bound::new();
     let mut pair = |place: usize, frame: Four| {
         let p = vertex(curve, place);
-        write_point(stretch, 2 * place, p, &mut bound);
-        write_point(stretch, 2 * place + 1, p + frame * width, &mut bound);
+        let q = p + frame * width;
+        bound.note(q);
+        write_point(stretch, 2 * place, p);
+        write_point(stretch, 2 * place + 1, q);
     };
     let start = end(directions.direction(0), first(curve));
     let frame = carry(directions, start, leaving, |place, axes| {
@@ -155,7 +156,7 @@ fn write_capsule(
     let middles = [0, directions.segments()].map(|place| vertex(curve, place));
     write_caps(&round, longitudes, radius, middles, [bottom, top], stretch);
     for (middle, axes) in middles.into_iter().zip([bottom, top]) {
-        // Both caps, whose rings have smaller radii.
+        // Poles and rings of the caps reach no further than both together.
         bound.note_ring(middle, axes.x, axes.y(), radius);
         bound.note_ring(middle, axes.z, axes.z, radius);
     }
@@ -187,10 +188,9 @@ fn write_caps(
         let middle = q + top.z * Four::all(radius * sin);
         write_sum(above, middle, (top.x, sines), (y_top, cosines));
     }
-    let mut poles = Bound::new();
     let radius = Four::all(radius);
-    write_point(below, 0, p - bottom.z * radius, &mut poles);
-    write_point(above, above.len() / 3 - 1, q + top.z * radius, &mut poles);
+    write_point(below, 0, p - bottom.z * radius);
+    write_point(above, above.len() / 3 - 1, q + top.z * radius);
 }
 
 fn write_torus(
@@ -231,8 +231,9 @@ fn write_closed_cylinder(
         bound.note(Four::all(height));
         write_level(&mut stretch[3 + 3 * n * g..], level.blocks(), height);
     }
-    write_point(stretch, 0, Four::point([0.0, low, 0.0]), &mut bound);
+    bound.note(Four::all(low + length));
+    write_point(stretch, 0, Four::point([0.0, low, 0.0]));
     let top = Four::point([0.0, low + length, 0.0]);
-    write_point(stretch, stretch.len() / 3 - 1, top, &mut bound);
+    write_point(stretch, stretch.len() / 3 - 1, top);
     bound.are_finite(stretch)
 }
