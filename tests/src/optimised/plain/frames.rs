@@ -1,4 +1,26 @@
-//! The frame carried along a curve.
+//! The frame carried along a curve, after the source's polyline3.rs and polyloop3.rs.
+//!
+//! MIT License
+//!
+//! Copyright (c) 2022 Nobuyuki Umetani
+//!
+//! Permission is hereby granted, free of charge, to any person obtaining a copy
+//! of this software and associated documentation files (the "Software"), to deal
+//! in the Software without restriction, including without limitation the rights
+//! to use, copy, modify, merge, publish, distribute, sublicense, and/or sell
+//! copies of the Software, and to permit persons to whom the Software is
+//! furnished to do so, subject to the following conditions:
+//!
+//! The above copyright notice and this permission notice shall be included in all
+//! copies or substantial portions of the Software.
+//!
+//! THE SOFTWARE IS PROVIDED "AS IS", WITHOUT WARRANTY OF ANY KIND, EXPRESS OR
+//! IMPLIED, INCLUDING BUT NOT LIMITED TO THE WARRANTIES OF MERCHANTABILITY,
+//! FITNESS FOR A PARTICULAR PURPOSE AND NONINFRINGEMENT. IN NO EVENT SHALL THE
+//! AUTHORS OR COPYRIGHT HOLDERS BE LIABLE FOR ANY CLAIM, DAMAGES OR OTHER
+//! LIABILITY, WHETHER IN AN ACTION OF CONTRACT, TORT OR OTHERWISE, ARISING FROM,
+//! OUT OF OR IN CONNECTION WITH THE SOFTWARE OR THE USE OR OTHER DEALINGS IN THE
+//! SOFTWARE.
 
 use crate::arithmetic::{first_frame, transport_step, Point};
 
@@ -7,6 +29,14 @@ use crate::arithmetic::{first_frame, transport_step, Point};
 pub struct Axes {
     pub x: Point,
     pub z: Point,
+}
+
+impl Axes {
+    /// ex and ey.
+    #[inline(always)]
+    pub fn across(self) -> [Point; 2] {
+        [self.x, self.z.cross(self.x)]
+    }
 }
 
 /// The frame at the first vertex.

@@ -1,5 +1,6 @@
 //! One vertex, segment or coordinate at a time, for the compiler to put together.
 
+mod bound;
 mod directions;
 mod frames;
 mod vertices;
@@ -30,7 +31,6 @@ impl Form for Plain {
     }
 
     fn write_vertices(&mut self, description: Description, curve: &[f32], out: &mut [f32]) -> bool {
-        vertices::write(description, curve, &self.0, out);
-        are_finite(out)
+        vertices::write(description, curve, &self.0, out)
     }
 }
