@@ -1,5 +1,5 @@
-//! The frame carried along a curve, after the source's polyline3.rs and polyloop3.rs. What of a step does not depend on the frame before is worked out for four
-//! vertices at a time.
+//! The frame carried along a curve, after the source's polyline3.rs and polyloop3.rs. What of a step does not depend
+//! on the frame before is worked out for four vertices at a time.
 //!
 //! MIT License
 //!
