@@ -1,6 +1,6 @@
-//! Links the proved code, which stands as a static library beside this folder.
+//! Links the proved code, which stands as a static library beside this folder, and notes the compiler's version.
 
-use std::{env, path::Path};
+use std::{env, path::Path, process::Command};
 
 fn main() {
     let manifest = env::var("CARGO_MANIFEST_DIR").expect("cargo names the manifest's folder");
@@ -10,4 +10,11 @@ fn main() {
     println!("cargo:rustc-link-lib=static=togbefulo");
     println!("cargo:rerun-if-changed={}", library.display());
     println!("cargo:rerun-if-changed=build.rs");
+    let compiler = env::var("RUSTC").expect("cargo names the compiler");
+    let version = Command::new(compiler).arg("--version").output();
+    let version = version.expect("the compiler says its version").stdout;
+    println!(
+        "cargo:rustc-env=RUSTC_VERSION={}",
+        String::from_utf8_lossy(&version).trim()
+    );
 }

@@ -2,7 +2,12 @@
 
 use crate::{
     del_msh::{polyline3, polyloop3, trimesh3_primitive},
-    paper::{description::Description, ledger::Alone},
+    optimised::{are_finite, Form, Sse2},
+    paper::{
+        description::{Description, Refusal},
+        ledger::Alone,
+    },
+    topology::Body,
 };
 
 /// Triangles with local indices, and vertices.
@@ -62,5 +67,37 @@ pub fn alone(description: Description, curve: &[f32]) -> Alone {
     Alone {
         vertices,
         triangles: triangles.into_iter().map(narrowed).collect(),
+    }
+}
+
+/// The source as it stands, with the checks of the optimised Rust. Its lists are copied into the lent buffers.
+pub struct Source {
+    checks: Sse2,
+    triangles: Vec<[usize; 3]>,
+}
+
+impl Form for Source {
+    fn new() -> Source {
+        Source {
+            checks: Sse2::new(),
+            triangles: Vec::new(),
+        }
+    }
+
+    fn check(&mut self, curve: &[f32], closed: bool) -> Result<(), Refusal> {
+        self.checks.check(curve, closed)
+    }
+
+    fn write_vertices(&mut self, description: Description, curve: &[f32], out: &mut [f32]) -> bool {
+        let (triangles, vertices) = body(description, curve);
+        self.triangles = triangles;
+        out.copy_from_slice(vertices.as_flattened());
+        are_finite(out)
+    }
+
+    fn write_triangles(&mut self, _body: Body, first: u32, out: &mut [u32]) {
+        for (to, index) in out.iter_mut().zip(self.triangles.as_flattened()) {
+            *to = first + *index as u32;
+        }
     }
 }

@@ -16,6 +16,7 @@ pub mod inputs;
 pub mod library;
 pub mod lines;
 pub mod met;
+pub mod optimised;
 pub mod paper;
 pub mod patterns;
 pub mod readings;
