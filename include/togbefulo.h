@@ -4,15 +4,16 @@
  *
  *     cc -std=c99 -I include station.c target/staticlib/libtogbefulo.a -o station
  *
- * The library allocates nothing, prints nothing, keeps nothing between two calls and needs memset alone of the C
- * library. Threads may call it at the same time, each with its own buffers. It counts on the floating-point state with
- * which a program starts: rounding to nearest, subnormal numbers kept (-ffast-math at linking changes that).
+ * The library allocates nothing, prints nothing, keeps nothing between two calls, takes less than 16 KiB of stack and
+ * needs memset alone of the C library. Threads may call it at the same time, each with its own buffers. It counts on
+ * the floating-point state with which a program starts: rounding to nearest, no traps, subnormal numbers kept. A
+ * program that is linked with -ffast-math may start otherwise, and gets other floats then.
  *
  *
  * BUFFERS
  *
- * A buffer is handed over as a pointer and, behind it, its length in elements, not in bytes. What stands in it when it is
- * lent does not matter, unless a call says so. No call reads or writes past the length.
+ * A buffer is handed over as a pointer and, behind it, its length in elements, not in bytes. No call reads or writes
+ * past the length. What a buffer holds before it is first written does not matter.
  *
  *   - Where the length is 0, the pointer may be anything, NULL too.
  *   - Otherwise it points to that many elements, aligned as their type is (4 bytes for float and uint32_t).
@@ -58,8 +59,8 @@
  *
  * ANSWERS
  *
- * Calls of type uint32_t answer 0 where they have done what was asked, or the number of the first thing that is wrong, in
- * the order that the call names. Unless a call says otherwise, one that does not answer 0 has written nothing.
+ * Calls of type uint32_t answer 0 where they have done what was asked, or the number of the first thing that is wrong,
+ * in the order that the call names. Unless a call says otherwise, one that does not answer 0 has written nothing.
  *
  *    0  TOGBEFULO_ACCEPTED          done
  *
@@ -164,9 +165,9 @@ uint32_t togbefulo_add(uint32_t kind, uint32_t divisions, uint32_t steps, bool c
 uint32_t togbefulo_counts(uint32_t kind, uint32_t divisions, uint32_t steps, bool centred, float size, float length,
                           size_t vertices, uint32_t counts[TOGBEFULO_AT_LEAST 2]);
 
-/* Puts the word at this place of the set's file, counted from 0, into `word`. The file is words of 32 bits, written with
- * the low byte first: 1, the numbers of bodies, vertices and triangles, the table's entries, the bits of all floats, all
- * vertex numbers. togbefulo_file_words says how many they are.
+/* Puts the word at this place of the set's file, counted from 0, into `word`. The file is words of 32 bits, written
+ * with the low byte first: 1, the numbers of bodies, vertices and triangles, the table's entries, the bits of all
+ * floats, all vertex numbers. togbefulo_file_words says how many they are.
  * Answers 0, 1 or 5. Where it is not 0, `word` is untouched. */
 uint32_t togbefulo_file_word(const uint32_t *table, size_t table_len,
                              const float *vertices, size_t vertices_len,
@@ -177,8 +178,8 @@ uint32_t togbefulo_file_word(const uint32_t *table, size_t table_len,
  * for false), the bits of size and of length, the number of curve vertices, the bits of their coordinates. The list
  * ends where the words do, at a record that they cut short, or at one of more than 512 curve vertices.
  * What togbefulo_add answers for each record of a kind from 1 to 5, in order, goes to the front of `answers`, as far as
- * that reaches; it may have length 0. The rest of it is untouched, so that who fills it with 4294967295 beforehand sees how
- * many there were. Records of unknown kinds are skipped and have no answer.
+ * that reaches; it may have length 0. The rest of it is untouched, so that who fills it with 4294967295 beforehand sees
+ * how many there were. Records of unknown kinds are skipped and have no answer.
  * Answers 0, also where some or all records are refused, or 1 for a table of length 0, and then nothing is written. */
 uint32_t togbefulo_build(const uint32_t *records, size_t records_len,
                          uint32_t *answers, size_t answers_len,
@@ -224,8 +225,8 @@ bool togbefulo_vertices(uint32_t kind, uint32_t divisions, uint32_t steps, bool 
 /* The next five write the triangles of a body to the front of `out`: 3 * counts[1] words, the vertex numbers, each with
  * `first` added, and leave the rest of it untouched. `first` is 0 for a body by itself.
  * They answer true. Where a number is outside its range, the body's last vertex would have the number 2^28 or above, or
- * `out` is too short, they answer false and write nothing. An open curve has one segment fewer than vertices: segments are
- * 1 to 4095. */
+ * `out` is too short, they answer false and write nothing. An open curve has one segment fewer than vertices: segments
+ * are 1 to 4095. */
 bool togbefulo_ribbon_triangles(uint16_t segments, uint32_t first, uint32_t *out, size_t out_len);
 bool togbefulo_tube_triangles(uint16_t divisions, uint16_t segments, uint32_t first, uint32_t *out, size_t out_len);
 bool togbefulo_capsule_triangles(uint16_t divisions, uint16_t longitudes, uint16_t segments, uint32_t first,
@@ -249,8 +250,8 @@ bool togbefulo_is_finite(float x);
 uint32_t togbefulo_to_word(float x);
 float togbefulo_from_word(uint32_t w);
 
-/* The cosine and the sine of k / n of a whole turn, as bodies are drawn with them. For k at or above n, or n above 2^24,
- * those of no turn: 1 and 0. */
+/* The cosine and the sine of k / n of a whole turn, as bodies are drawn with them. For k at or above n, or n above
+ * 2^24, those of no turn: 1 and 0. */
 float togbefulo_turn_cos(uint32_t k, uint32_t n);
 float togbefulo_turn_sin(uint32_t k, uint32_t n);
 

@@ -1,6 +1,6 @@
 //! What a body is made of, beside its curve.
 
-/// A vertex of a curve: x, y, z.
+/// A vertex of a curve: x, y, z. A curve of floats one behind the other is one of points by [`slice::as_chunks`].
 pub type Point = [f32; 3];
 
 /// The five kinds, by the numbers that the table has.

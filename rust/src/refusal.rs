@@ -110,8 +110,8 @@ impl Display for Refusal {
 
 impl Error for Refusal {}
 
-/// What a number of the library says. A description has one of the five kinds, so that the number for an unknown kind is
-/// never met; nor is any other, as long as the library that was linked is the one of these declarations.
+/// What a number of the library says. A description has one of the five kinds, so that the number for an unknown kind
+/// is never met; nor is any other, as long as the library that was linked is the one of these declarations.
 pub(crate) fn answer(number: u32) -> Result<(), Refusal> {
     if number == 0 {
         return Ok(());

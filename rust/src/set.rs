@@ -137,10 +137,11 @@ impl<'a> Set<'a> {
         ))
     }
 
-    /// Clears the set and adds the bodies of a whole list of [records](Description::record), which ends where the words
-    /// do, at a record that they cut short, or at one of more than 512 curve vertices.
+    /// Clears the set and adds the bodies of a whole list of [records](Description::record), which ends where the
+    /// words do, at a record that they cut short, or at one of more than 512 curve vertices.
     ///
-    /// What [`Set::add`] answers is handed back for each record of a kind from 1 to 5, in order; the others are skipped.
+    /// What [`Set::add`] answers is handed back for each record of a kind from 1 to 5, in order; the others are
+    /// skipped.
     ///
     /// ```
     /// use togbefulo::{Description, Refusal, Set};

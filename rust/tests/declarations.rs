@@ -1,5 +1,5 @@
-//! The header and `ffi` declare what the proved source exports, and nothing else: names, arguments, types; and the header
-//! has the numbers of the crate.
+//! The header and `ffi` declare what the proved source exports, and nothing else: names, arguments, types; and the
+//! header has the numbers of the crate.
 
 use std::{collections::BTreeSet, fs, path::Path};
 use togbefulo::{Kind, Refusal, TABLE_WORDS};

@@ -243,8 +243,8 @@ fn sixty_four_bodies() {
     assert_eq!(set.entries().len(), 64);
 }
 
-/// A list of records leaves what its additions do, and has their answers; one of an unknown kind has none, and behind one
-/// that is cut short there is nothing.
+/// A list of records leaves what its additions do, and has their answers; one of an unknown kind has none, and behind
+/// one that is cut short there is nothing.
 #[test]
 fn records() {
     let mut unknown = RIBBON.record(&STRAIGHT);

@@ -1,5 +1,5 @@
-/* The library as C sees it: the numbers of the header, pointers that are NULL, buffers that are too short, unknown kinds,
- * and every element that a call may not touch. Ends in 1 where something differs. */
+/* The library as C sees it: the numbers of the header, pointers that are NULL, buffers that are too short, unknown
+ * kinds, and every element that a call may not touch. Ends in 1 where something differs. */
 #include "togbefulo.h"
 
 #include <stdio.h>
@@ -212,9 +212,11 @@ static void exact_fit_and_one_short(void)
     CHECK(!togbefulo_tube_triangles(3, 1, 0, lent.triangles, TRIANGLES - 1));
     CHECK(same(&lent, &before));
     CHECK(add_tube(&lent, TABLE, VERTICES, TRIANGLES) == 0);
-    CHECK(memcmp(lent.table + TABLE, before.table + TABLE, sizeof before.table - 4 * TABLE) == 0);
-    CHECK(memcmp(lent.vertices + VERTICES, before.vertices + VERTICES, sizeof before.vertices - 4 * VERTICES) == 0);
-    CHECK(memcmp(lent.triangles + TRIANGLES, before.triangles + TRIANGLES, sizeof before.triangles - 4 * TRIANGLES) == 0);
+#define SAME_BEHIND(buffer, count) \
+    (memcmp(lent.buffer + count, before.buffer + count, sizeof before.buffer - 4 * count) == 0)
+    CHECK(SAME_BEHIND(table, TABLE));
+    CHECK(SAME_BEHIND(vertices, VERTICES));
+    CHECK(SAME_BEHIND(triangles, TRIANGLES));
     CHECK(togbefulo_are_finite(lent.vertices, VERTICES));
     CHECK(lent.triangles[0] == 0 && lent.triangles[1] == 4 && lent.triangles[2] == 1);
     CHECK(togbefulo_clear(lent.table, 1) == 0 && lent.table[0] == 0 && lent.table[1] == 2);
