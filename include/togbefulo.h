@@ -53,8 +53,9 @@
  *   vertices   x, y, z of each vertex, body after body: three floats a vertex
  *   triangles  three vertex numbers a triangle, counted from the set's first vertex, body after body
  *
- * togbefulo_counts says how many vertices and triangles a body has. A body that fits exactly is accepted.
- * Whoever changes the table by hand may get 1 from the next call, and nothing worse.
+ * togbefulo_clear comes first. togbefulo_counts says how many vertices and triangles a body has; one that fits exactly
+ * is accepted. A table that was changed by hand is answered 1, or, where a set could have it, taken as it stands; no call
+ * leaves its buffers for it.
  *
  *
  * ANSWERS
