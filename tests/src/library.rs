@@ -5,81 +5,10 @@ mod set;
 pub use set::{add, build, clear, file_word};
 
 use crate::{paper::description::Fields, topology::Body};
+use togbefulo::ffi::*;
 
 /// What the library answers for a kind that is none of the paper's numbers.
 pub const UNKNOWN_KIND: u32 = u32::MAX;
-
-extern "C" {
-    fn togbefulo_root(x: f32) -> f32;
-    fn togbefulo_is_finite(x: f32) -> bool;
-    fn togbefulo_to_word(x: f32) -> u32;
-    fn togbefulo_from_word(word: u32) -> f32;
-    fn togbefulo_turn_cos(k: u32, n: u32) -> f32;
-    fn togbefulo_turn_sin(k: u32, n: u32) -> f32;
-    fn togbefulo_ribbon_triangles(segments: u16, first: u32, out: *mut u32, len: usize) -> bool;
-    fn togbefulo_tube_triangles(
-        divisions: u16,
-        segments: u16,
-        first: u32,
-        out: *mut u32,
-        len: usize,
-    ) -> bool;
-    fn togbefulo_capsule_triangles(
-        divisions: u16,
-        longitudes: u16,
-        segments: u16,
-        first: u32,
-        out: *mut u32,
-        len: usize,
-    ) -> bool;
-    fn togbefulo_torus_triangles(
-        divisions: u16,
-        vertices: u16,
-        first: u32,
-        out: *mut u32,
-        len: usize,
-    ) -> bool;
-    fn togbefulo_closed_cylinder_triangles(
-        divisions: u16,
-        layers: u16,
-        first: u32,
-        out: *mut u32,
-        len: usize,
-    ) -> bool;
-    fn togbefulo_counts(
-        kind: u32,
-        divisions: u32,
-        longitudes: u32,
-        centred: bool,
-        size: f32,
-        length: f32,
-        vertices: usize,
-        counts: *mut [u32; 2],
-    ) -> u32;
-    fn togbefulo_check(
-        kind: u32,
-        divisions: u32,
-        longitudes: u32,
-        centred: bool,
-        size: f32,
-        length: f32,
-        curve: *const f32,
-        curve_len: usize,
-    ) -> u32;
-    fn togbefulo_vertices(
-        kind: u32,
-        divisions: u32,
-        longitudes: u32,
-        centred: bool,
-        size: f32,
-        length: f32,
-        curve: *const f32,
-        curve_len: usize,
-        out: *mut f32,
-        out_len: usize,
-    ) -> bool;
-    fn togbefulo_are_finite(values: *const f32, len: usize) -> bool;
-}
 
 // SAFETY of the calls on numbers: they take and return plain values and touch no memory of ours.
 

@@ -110,9 +110,10 @@ fn answers(name: &str) -> Met {
 /// What the stored records are there for.
 #[test]
 fn stored_records_meet_the_refusals() {
-    let expected: [(&str, &[u32]); 6] = [
+    let expected: [(&str, &[u32]); 7] = [
         ("sample", &[0]),
         (EXAMPLE, &[0]),
+        ("example_c", &[0, 13]),
         ("refusals", &[0, 3, 4, 10, 11, 12, 13, 20, 21, 22, 23]),
         ("entries", &[0, 2, 13]),
         ("exact", &[0, 3, 4]),

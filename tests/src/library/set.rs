@@ -1,48 +1,7 @@
 //! The calls of the shared set, and a whole list of records in one call.
 
 use crate::{buffers::Buffers, paper::description::Input};
-
-extern "C" {
-    fn togbefulo_clear(table: *mut u32, table_len: usize) -> u32;
-    fn togbefulo_add(
-        kind: u32,
-        divisions: u32,
-        longitudes: u32,
-        centred: bool,
-        size: f32,
-        length: f32,
-        curve: *const f32,
-        curve_len: usize,
-        table: *mut u32,
-        table_len: usize,
-        vertices: *mut f32,
-        vertices_len: usize,
-        triangles: *mut u32,
-        triangles_len: usize,
-    ) -> u32;
-    fn togbefulo_file_word(
-        table: *const u32,
-        table_len: usize,
-        vertices: *const f32,
-        vertices_len: usize,
-        triangles: *const u32,
-        triangles_len: usize,
-        place: usize,
-        word: *mut [u32; 1],
-    ) -> u32;
-    fn togbefulo_build(
-        records: *const u32,
-        records_len: usize,
-        answers: *mut u32,
-        answers_len: usize,
-        table: *mut u32,
-        table_len: usize,
-        vertices: *mut f32,
-        vertices_len: usize,
-        triangles: *mut u32,
-        triangles_len: usize,
-    ) -> u32;
-}
+use togbefulo::ffi::*;
 
 /// Word 0 becomes 0; an empty table is answered 1.
 pub fn clear(table: &mut [u32]) -> u32 {

@@ -3,6 +3,7 @@
 mod ends;
 mod entries;
 mod exact;
+mod example_c;
 mod harness;
 mod refusals;
 mod sample;
@@ -22,9 +23,10 @@ pub const EXAMPLE: &str = "harness";
 /// A file's name, and what makes its bytes.
 pub type RecordFile = (&'static str, fn() -> Vec<u8>);
 
-pub const FILES: [RecordFile; 11] = [
+pub const FILES: [RecordFile; 12] = [
     ("sample", sample::file),
     (EXAMPLE, harness::file),
+    ("example_c", example_c::file),
     ("refusals", refusals::file),
     ("entries", entries::file),
     ("exact", exact::file),
