@@ -1,5 +1,6 @@
 // A body alone: from a description and a curve to its vertices.
 mod caps;
+mod checked;
 mod directions;
 mod polyline3;
 mod polyloop3;
@@ -8,4 +9,5 @@ mod swept;
 mod trimesh3_primitive;
 mod vertices;
 
+pub use checked::write_checked;
 pub use vertices::write_vertices;
