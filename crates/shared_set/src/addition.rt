@@ -8,7 +8,6 @@ ghost use Rattle.shared_set.specs.Answers.{outcomeAnswer};
 ghost use Rattle.shared_set.specs.Set.{after, addedBehind, added};
 use crate::answers::Outcome;
 use crate::place::place;
-use crate::room::is_enough;
 use crate::room::room_behind;
 use crate::stretch::draw;
 use descriptions::Description;
@@ -42,13 +41,7 @@ fn add_behind(
         vertices.len(),
         triangles.len(),
     );
-    match draw(
-        totals.vertices,
-        is_enough(room),
-        description,
-        curve,
-        vertices,
-    ) {
+    match draw(totals.vertices, room, description, curve, vertices) {
         Verdict::Refused(why) => Outcome::Refused(Why::Body(why)),
         Verdict::Accepted(body) => {
             match room {

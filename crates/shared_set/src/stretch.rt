@@ -11,16 +11,19 @@ ghost use Rattle.kinds.specs.Kinds.{vertexCount};
 ghost use Rattle.descriptions.specs.Answers.{isAccepted, verdictAnswer};
 ghost use Rattle.descriptions.specs.Refusals.{checkedOf};
 ghost use Rattle.bodies.specs.Bodies.{verticesOf, drawable};
+ghost use Rattle.set_table.specs.Answers.{roomAnswer};
 ghost use Rattle.shared_set.specs.Bodies.{stretchOf};
+use crate::room::is_enough;
 use descriptions::Description;
 use descriptions::Verdict;
 use kinds::Topology;
+use set_table::Room;
 
-// Checks the description and its curve, and draws the vertices of what is accepted, where they are wanted, into the vertex buffer, lent
-// from three times the body's first vertex on.
+// Checks the description and its curve, and draws the vertices of what is accepted and has room into the vertex buffer, lent from three
+// times the body's first vertex on.
 pub(crate) fn draw(
     first: usize,
-    wanted: bool,
+    room: Room,
     description: Description,
     curve: &[f32],
     vertices: &mut [f32],
@@ -28,12 +31,12 @@ pub(crate) fn draw(
     requires { ⌜ first ≤ mostInAll ⌝ }
     requires { ⌜ 3 * first ≤ length (now vertices) ⌝ }
     ensures { λ r. ⌜ verdictAnswer r ≡ checkedOf description (now (curve .entry)) ⌝ }
-    ensures { λ r. let room = length (now (vertices .entry)) - 3 * first in
-        let written = isAccepted (verdictAnswer r) && (wanted && drawable description (now (curve .entry)) room) in
+    ensures { λ r. let rest = length (now (vertices .entry)) - 3 * first in
+        let written = isAccepted (verdictAnswer r) && (isAccepted (roomAnswer room) && drawable description (now (curve .entry)) rest) in
         ⌜ now (vertices .exit) ≡ overwrite (3 * first) (cond written (verticesOf description (now (curve .entry))) []) (now (vertices .entry)) ⌝ }
 {
     let at = 3 * first;
-    bodies::write_checked(description, curve, wanted, &mut vertices[at..])
+    bodies::write_checked(description, curve, is_enough(room), &mut vertices[at..])
 }
 
 // Whether all floats of a body's stretch are finite. Where one is not, 23, the stretch is left at +0.

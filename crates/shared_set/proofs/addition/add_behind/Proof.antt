@@ -28,7 +28,7 @@ use Rattle.shared_set.proofs.addition.add_behind.Statement.{statement}
 use Rattle.shared_set.proofs.addition.add_behind.Tie as tie
 
 abbrev start : tie.After-draw → tie.Start
-start d = d .before .before .before .before .before .before .before .before
+start d = d .before .before .before .before .before .before .before
 
 abbrev held : tie.Start → Buffers
 held s = buffers (now (s .args .table)) (now (s .args .vertices)) (now (s .args .triangles))
@@ -53,11 +53,11 @@ abbrev left : tie.After-draw → List Float
 left d = d .draw .last .1 .1 .1 .1 .0
 
 drew : (d : tie.After-draw) {accepts enough : Bool} → isAccepted (verdictAnswer (d .draw .result)) ≡ accepts
-    → isAccepted (roomAnswer (d .before .before .before .room-behind .result)) ≡ enough
+    → isAccepted (roomAnswer (d .before .before .room-behind .result)) ≡ enough
     → left d ≡ drawing (start d) (accepts && (enough && fits (start d)))
 drew d accepts enough =
     let s = start d in
-    d .draw .ensures .1 ∙ (λ j. drawing s (accepts j && ((d .before .before .is-enough .ensures ∙ enough) j && fits s)))
+    d .draw .ensures .1 ∙ (λ j. drawing s (accepts j && (enough j && fits s)))
 
 none : (s : tie.Start) → drawing s false ≡ held s .vertices
 none s = overwrite-none (at s) (held s .vertices)
@@ -82,7 +82,7 @@ abbrev tests : tie.After-body → List Test
 tests b = let s = start (drawn b) in told (s .args .description) (curve s) (lengthsOf (held s)) (s .args .totals) (accepting b)
 
 enough : (e : tie.After-enum-told) → accepted tt ≡ answerOf (tests (bodied e))
-enough e = sym (ap roomAnswer (e .enum-told .given .1)) ∙ drawn (bodied e) .before .before .before .room-behind .ensures
+enough e = sym (ap roomAnswer (e .enum-told .given .1)) ∙ drawn (bodied e) .before .before .room-behind .ensures
 
 whole-drawn : (e : tie.After-enum-told) → let s = start (drawn (bodied e)) in left (drawn (bodied e)) ≡ drawing s true
 whole-drawn e =
@@ -94,9 +94,6 @@ whole-drawn e =
 
 room-behind-requires : tie.Need-room-behind-requires
 room-behind-requires c κs = search needs
-
-is-enough-requires : tie.Need-is-enough-requires
-is-enough-requires c κs = search needs
 
 draw-requires : tie.Need-draw-requires
 draw-requires c κs = search needs
@@ -147,7 +144,7 @@ returns-2 c = let y = c .before in
     let s = start d in
     let a = s .args in
     let w = y .room .given .0 .0 in
-    let refusal = sym (ap roomAnswer (y .room .given .1)) ∙ d .before .before .before .room-behind .ensures in
+    let refusal = sym (ap roomAnswer (y .room .given .1)) ∙ d .before .before .room-behind .ensures in
     let kept = drew d (is-accepted b) (ap (λ (r : Room). isAccepted (roomAnswer r)) (y .room .given .1)) ∙ none s in
     (λ j. after (refused (whyNumber w)) (held s .table) (kept j) (held s .triangles))
     ∙ untouched w (a .totals) (body s) (held s) (refused-room (a .description) (curve s) (lengthsOf (held s)) (a .totals) (accepting b) refusal)
@@ -174,7 +171,6 @@ add-behind-spec =
     tie.close
     (tie.spec
     room-behind-requires
-    is-enough-requires
     draw-requires
     enum-known-why
     enum-known-body
