@@ -13,8 +13,8 @@ use set_table::Totals;
 use set_table::Why;
 use set_table::check_room;
 
-// Whether there is room for the body of a description and so many curve vertices, by its numbers alone; for a shape that 10, 20 or 21
-// refuses there is none.
+// Refusals 10, 20, 21, 2, 3 and 4 of the body of a description and so many curve vertices, by its numbers alone: whether there is room for
+// it. For a shape that is refused there is none.
 pub(crate) fn room_behind(
     totals: Totals,
     description: Description,
@@ -32,6 +32,7 @@ pub(crate) fn room_behind(
     }
 }
 
+// Whether none of those refusals holds.
 pub(crate) fn is_enough(room: Room) -> bool
     ensures { λ r. ⌜ r ≡ isAccepted (roomAnswer room) ⌝ }
 {
