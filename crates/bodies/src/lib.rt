@@ -1,5 +1,6 @@
 // A body alone: from a description and a curve to its vertices.
 mod caps;
+mod checked;
 mod directions;
 mod points;
 mod polyline3;
@@ -10,4 +11,5 @@ mod trimesh3_primitive;
 mod turns;
 mod vertices;
 
+pub use checked::write_checked;
 pub use vertices::write_vertices;

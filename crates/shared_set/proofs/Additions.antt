@@ -1,7 +1,7 @@
 -- What an addition to a set answers, by what its parts answer, and what a refusal leaves. Assumes nothing.
 use mathlib.Core.Path.{_≡_, refl, sym, ap, _∙_}
 use mathlib.Core.Bool.{false, cond}
-use mathlib.Core.List.{List}
+use mathlib.Core.List.{List, _++_}
 use Prim.Native.Nat.{ℕ, _%_}
 use lib.Dec.{eqb}
 use lib.Ieee.{Float}
@@ -11,7 +11,7 @@ use Rattle.kinds.specs.declared.topology.Topology.{Topology}
 use Rattle.curve.specs.Segments.{verticesIn}
 use Rattle.descriptions.specs.Answers.{Answer, Test, AllPermitted, refused, accepted, firstOf, numberOf}
 use Rattle.descriptions.specs.Descriptions.{topologyOf}
-use Rattle.descriptions.specs.Refusals.{ShapePermitted, checkedTests, checkedOf}
+use Rattle.descriptions.specs.Refusals.{shapeTests, ShapePermitted, checkedTests, checkedOf}
 use Rattle.descriptions.specs.declared.answers.Refusal.{Refusal}
 use Rattle.descriptions.specs.declared.answers.Refusal.the-variants as refusal
 use Rattle.descriptions.specs.declared.description.Description.{Description}
@@ -78,15 +78,17 @@ module _ (d : Description) (c : List Float) where
     abbrev own : List Test
     own = roomTests room t (vertexCountIn (bodyAlone d c)) (triangleCountIn (bodyAlone d c))
 
-    abbrev told : List Test
-    told = roomTests room t (vertexCount body) (triangleCount body)
+    -- by the numbers of its description, behind 10, 20 and 21
+    abbrev pub told : List Test
+    told = shapeTests d N ++ roomTests room t (vertexCount (topologyOf d N)) (triangleCount (topologyOf d N))
 
     -- its counts are those of the vertices and triangles that it has
     same-answer : answerOf told ≡ answerOf own
     same-answer =
-        let vertices = ap vertexCount (h .same) ∙ sym (vertices-counted d c (h .shape)) in
-        let triangles = ap triangleCount (h .same) ∙ sym (triangles-counted d c (h .shape)) in
-        (λ j. answerOf (roomTests room t (vertices j) (triangles j)))
+        let vertices = sym (vertices-counted d c (h .shape)) in
+        let triangles = sym (triangles-counted d c (h .shape)) in
+        sym (passed-by (shapeTests d N) (roomTests room t (vertexCount (topologyOf d N)) (triangleCount (topologyOf d N))) tt (h .shape))
+        ∙ (λ j. answerOf (roomTests room t (vertices j) (triangles j)))
 
     behind : answerOf (placeTests room t (bodyAlone d c)) ≡ answerOf (additionTests room t d c)
     behind = passed-by (checkedTests d c) (placeTests room t (bodyAlone d c)) tt (h .tests)

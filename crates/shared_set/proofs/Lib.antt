@@ -1,2 +1,3 @@
 pub mod Counts
 mod Additions
+mod Drawn

@@ -1,10 +1,11 @@
 -- A body as the set holds it (document 01, 'The shared set' and the ledger's paragraphs of 'Frames and vertices'). Definitions only.
 use mathlib.Core.List.{List}
-use Prim.Native.Nat.{ℕ}
+use Prim.Native.Nat.{ℕ, _*_}
 use lib.Ieee.{Float}
-use lib.ListN.{length}
+use lib.ListN.{length, take, drop}
 use Rattle.surface.specs.Triangles.{Triangle}
 use Rattle.kinds.specs.Kinds.{trianglesOf}
+use Rattle.kinds.specs.declared.topology.Topology.{Topology}
 use Rattle.curve.specs.Segments.{verticesIn}
 use Rattle.descriptions.specs.Descriptions.{topologyOf}
 use Rattle.descriptions.specs.KindNumbers.{kindNumber, divisionsOf}
@@ -24,11 +25,19 @@ vertexCountIn b = verticesIn (b .vertices)
 abbrev pub triangleCountIn : Body → ℕ
 triangleCountIn b = length (b .triangles)
 
--- "A body alone is the vertices and local triangles that this paper's definitions give its description and curve", "with its kind and n".
-abbrev pub bodyAlone : Description → List Float → Body
-bodyAlone d c = record {
+-- the body of a description and its numbers that has these vertices
+abbrev pub bodyWith : Description → Topology → List Float → Body
+bodyWith d body vertices = record {
   kind = kindNumber d;
   divisions = divisionsOf d;
-  vertices = verticesOf d c;
-  triangles = trianglesOf (topologyOf d (verticesIn c));
+  vertices = vertices;
+  triangles = trianglesOf body;
 }
+
+-- "A body alone is the vertices and local triangles that this paper's definitions give its description and curve", "with its kind and n".
+abbrev pub bodyAlone : Description → List Float → Body
+bodyAlone d c = bodyWith d (topologyOf d (verticesIn c)) (verticesOf d c)
+
+-- what stands in a vertex buffer from vertex `first` on, so many vertices long
+abbrev pub stretchOf : ℕ → ℕ → List Float → List Float
+stretchOf first count vertices = take (3 * count) (drop (3 * first) vertices)

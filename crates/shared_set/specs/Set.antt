@@ -77,8 +77,8 @@ abbrev pub settledAs : Totals → Body → Buffers → Answer (Unit {0}) → Aft
 settledAs t b s answer = record { answer = answer; left = settled t b answer s }
 
 -- the end of an add, of which 23 alone is left to be tried
-abbrev pub placedOf : Description → List Float → Totals → Buffers → After
-placedOf d c t s = settledAs t (bodyAlone d c) s (firstOf (finiteTests (bodyAlone d c)) tt)
+abbrev pub settledBody : Totals → Body → Buffers → After
+settledBody t b s = settledAs t b s (firstOf (finiteTests b) tt)
 
 -- an add to a table that is not damaged and says t
 abbrev pub addedBehind : Description → List Float → Totals → Buffers → After

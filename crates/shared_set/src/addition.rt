@@ -1,21 +1,24 @@
 ghost use mathlib.Core.Path.{_≡_};
-ghost use Prim.Native.Nat.{_≤_};
+ghost use Prim.Native.Nat.{_*_, _≤_};
+ghost use lib.ListN.{length};
+ghost use Rattle.surface.specs.Limits.{mostInAll};
 ghost use Rattle.set_table.specs.Room.{mostBodies};
 ghost use Rattle.set_table.specs.Buffers.{buffers};
 ghost use Rattle.shared_set.specs.Answers.{outcomeAnswer};
 ghost use Rattle.shared_set.specs.Set.{after, addedBehind, added};
 use crate::answers::Outcome;
 use crate::place::place;
+use crate::room::room_behind;
+use crate::stretch::draw;
 use descriptions::Description;
 use descriptions::Verdict;
 use set_table::Reading;
 use set_table::Room;
 use set_table::Totals;
 use set_table::Why;
-use set_table::check_room;
 use set_table::read;
 
-// The refusals behind 1, and the body behind those that the table has.
+// The refusals behind 1, and the body behind those that the table has. The room is known first, so that what has none is not drawn.
 fn add_behind(
     totals: Totals,
     description: Description,
@@ -25,15 +28,25 @@ fn add_behind(
     triangles: &mut [u32],
 ) -> Outcome
     requires { ⌜ totals .bodies ≤ mostBodies ⌝ }
+    requires { ⌜ totals .vertices ≤ mostInAll ⌝ }
+    requires { ⌜ 3 * totals .vertices ≤ length (now vertices) ⌝ }
     ensures { λ r. ⌜ after (outcomeAnswer r) (now (table .exit)) (now (vertices .exit)) (now (triangles .exit))
         ≡ addedBehind description (now (curve .entry)) totals (buffers (now (table .entry)) (now (vertices .entry)) (now (triangles .entry))) ⌝ }
 {
-    match description.check(curve) {
+    let room = room_behind(
+        totals,
+        description,
+        curve.len() / 3,
+        table.len(),
+        vertices.len(),
+        triangles.len(),
+    );
+    match draw(totals.vertices, room, description, curve, vertices) {
         Verdict::Refused(why) => Outcome::Refused(Why::Body(why)),
         Verdict::Accepted(body) => {
-            match check_room(totals, body, table.len(), vertices.len(), triangles.len()) {
+            match room {
                 Room::Refused(why) => Outcome::Refused(why),
-                Room::Enough => place(totals, body, description, curve, table, vertices, triangles),
+                Room::Enough => place(totals, body, description, table, vertices, triangles),
             }
         }
     }

@@ -4,6 +4,8 @@ mod answers;
 mod clearing;
 mod entry;
 mod place;
+mod room;
+mod stretch;
 
 pub use addition::add;
 pub use answers::Outcome;

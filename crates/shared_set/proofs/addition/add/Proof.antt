@@ -1,13 +1,15 @@
 -- A damaged table is refused first; what another says is within its limits, and the answer is left to the tests behind 1. Assumes nothing.
 use mathlib.Core.Path.{_≡_, sym, ap, _∙_, subst}
 use mathlib.Core.List.{List, [], _∷_}
-use Prim.Native.Nat.{_≤_}
+use Prim.Native.Nat.{_*_, _≤_}
 use borrow.Author.Needs.{needs}
 use denote.Ref.{now}
 use lib.ListN.{length}
+use Rattle.surface.specs.Limits.{mostInAll}
 use Rattle.descriptions.specs.Answers.{Test, accepted}
 use Rattle.descriptions.specs.Refusals.{test}
 use Rattle.descriptions.proofs.FirstOf.{accepted-by, passed-by, refused-by}
+use Rattle.set_table.specs.Room.{mostBodies}
 use Rattle.set_table.specs.Table.{totalsIn, undamaged, readingOf}
 use Rattle.set_table.specs.Buffers.{Buffers, buffers, lengthsOf}
 use Rattle.set_table.specs.declared.answers.Why.the-variants as why
@@ -70,7 +72,8 @@ add-behind-requires : tie.Need-add-behind-requires
 add-behind-requires c κs = let t = c .before .before .before .before in
     let s = held (given t) in
     let told = reads (s .table) (length (s .vertices)) (length (s .triangles)) (sound t) in
-    subst (λ (x : Totals). x .bodies ≤ 64) (sym (told .0)) (told .1 .few)
+    subst (λ (x : Totals). (x .bodies ≤ mostBodies) × ((x .vertices ≤ mostInAll) × (3 * x .vertices ≤ length (s .vertices)))) (sym (told .0))
+    (told .1 .few, (told .1 .vertices, told .1 .vertices-held))
 
 same-length : tie.Need-same-length
 same-length c = search needs

@@ -1,4 +1,4 @@
--- The body's vertices are finite and its triangles and entry follow, or its stretch is zeros. Assumes nothing.
+-- The vertices that are drawn are finite and the body's triangles and entry follow, or its stretch is zeros. Assumes nothing.
 use mathlib.Core.Path.{_≡_, sym, ap, _∙_}
 use mathlib.Core.Bool.{Bool, true, cond, _&&_}
 use mathlib.Core.List.{List}
@@ -15,18 +15,16 @@ use Rattle.laws.specs.Lent.{lent-from, length-rest}
 use Rattle.float32.specs.Scan.{allFinite}
 use Rattle.float32.specs.Zeros.{zeros}
 use Rattle.surface.specs.Triangles.{flatten, shift}
-use Rattle.kinds.specs.Kinds.{permitted, vertexCount, triangleCount, trianglesOf, writable}
-use Rattle.kinds.specs.declared.topology.Topology.{Topology}
+use Rattle.kinds.specs.Kinds.{vertexCount, triangleCount, trianglesOf, writable}
+use Rattle.kinds.proofs.Claims.{permitted-claims}
 use Rattle.descriptions.specs.Answers.{accepted, refused}
-use Rattle.descriptions.specs.Descriptions.{topologyOf}
-use Rattle.descriptions.proofs.Shapes.{shape-permitted}
 use Rattle.set_table.specs.Buffers.{Buffers, buffers, lengthsOf}
 use Rattle.set_table.specs.declared.entries.Entry.{Entry}
 use Rattle.set_table.proofs.Fitting.{Fitting, fitting}
-use Rattle.shared_set.specs.Bodies.{Body, bodyAlone}
+use Rattle.shared_set.specs.Bodies.{Body, bodyWith, stretchOf}
 use Rattle.shared_set.specs.Answers.{notFinite}
 use Rattle.shared_set.specs.Set.{After, after, entryOf, withEntry, settledAs}
-use Rattle.shared_set.proofs.Counts.{vertices-counted, triangles-counted}
+use Rattle.shared_set.proofs.Counts.{stretch-counted}
 use Rattle.shared_set.proofs.place.place.Statement.{statement}
 use Rattle.shared_set.proofs.place.place.Tie as tie
 
@@ -34,20 +32,13 @@ abbrev held : tie.Start → Buffers
 held s = buffers (now (s .args .table)) (now (s .args .vertices)) (now (s .args .triangles))
 
 abbrev body : tie.Start → Body
-body s = bodyAlone (s .args .description) (now (s .args .curve))
-
--- how many vertices the curve has, and the body by its numbers
-abbrev N : tie.Start → ℕ
-N s = length (now (s .args .curve)) / 3
-
-abbrev promised : tie.Start → Topology
-promised s = topologyOf (s .args .description) (N s)
+body s = let a = s .args in bodyWith (a .description) (a .body) (stretchOf (a .totals .vertices) (vertexCount (a .body)) (now (a .vertices)))
 
 fit : (s : tie.Start) → Fitting (lengthsOf (held s)) (s .args .totals) (vertexCount (s .args .body)) (triangleCount (s .args .body))
-fit s = fitting (lengthsOf (held s)) (s .args .totals) (vertexCount (s .args .body)) (triangleCount (s .args .body)) (s .pre .1 .1 .1)
+fit s = fitting (lengthsOf (held s)) (s .args .totals) (vertexCount (s .args .body)) (triangleCount (s .args .body)) (s .pre .1)
 
-abbrev start : tie.After-write-stretch → tie.Start
-start w = w .before .before .before .before .before .before
+abbrev start : tie.After-settle → tie.Start
+start w = w .before .before .before .before .before
 
 -- what 23's answer leaves of the stretch and of the whole
 abbrev stretch : tie.Start → Bool → List Float
@@ -58,13 +49,13 @@ stretch s finite =
 abbrev settle : tie.Start → Bool → After
 settle s finite = settledAs (s .args .totals) (body s) (held s) (cond finite (accepted tt) (refused notFinite))
 
-left : (w : tie.After-write-stretch) {finite : Bool} → w .write-stretch .result ≡ finite
-    → w .write-stretch .last .1 .1 .1 .1 .0 ≡ stretch (start w) finite
-left w h = w .write-stretch .ensures .1 ∙ ap (stretch (start w)) h
+left : (w : tie.After-settle) {finite : Bool} → w .settle .result ≡ finite
+    → w .settle .last .1 .1 .0 ≡ stretch (start w) finite
+left w h = w .settle .ensures .1 ∙ ap (stretch (start w)) h
 
-settled : (w : tie.After-write-stretch) {finite : Bool} → w .write-stretch .result ≡ finite
+settled : (w : tie.After-settle) {finite : Bool} → w .settle .result ≡ finite
     → settle (start w) finite ≡ settle (start w) (allFinite (body (start w) .vertices))
-settled w h = ap (settle (start w)) (sym h ∙ w .write-stretch .ensures .0)
+settled w h = ap (settle (start w)) (sym h ∙ w .settle .ensures .0)
 
 abbrev before-triangles : tie.After-struct-known → tie.Start
 before-triangles c = start (c .before .before .before .before)
@@ -79,8 +70,8 @@ at s = 3 * s .args .totals .triangles
 abbrev old : tie.Start → List ℕ
 old s = now (s .args .triangles)
 
-abbrev list : tie.Start → Topology → List ℕ
-list s b = flatten (shift (s .args .totals .vertices) (trianglesOf b))
+abbrev list : tie.Start → List ℕ
+list s = flatten (shift (s .args .totals .vertices) (trianglesOf (s .args .body)))
 
 abbrev lent : tie.Start → List ℕ
 lent s = midOf (at s) (length (old s) - at s) (old s)
@@ -93,17 +84,16 @@ whole t =
     let f = fit s in
     let numbered = a .totals .vertices + vertexCount (a .body) in
     let room = length (lent s) in
-    let shape = ap permitted (s .pre .1 .1 .0) ∙ shape-permitted (a .description) (N s) (s .pre .1 .0) in
     let enough : 3 * triangleCount (a .body) ≤ room = omega (arith, length-rest (at s) (old s)) in
     t .write-triangles .ensures .0
-    ∙ (λ j. shape j && (le-leb numbered (2 ^ 28) (f .vertices .0) j && le-leb (3 * triangleCount (a .body)) room enough j))
+    ∙ (λ j. s .pre .0 j && (le-leb numbered (2 ^ 28) (f .vertices .0) j && le-leb (3 * triangleCount (a .body)) room enough j))
 
 written : (t : tie.After-write-triangles) → let s = begun t in
-    putMid (at s) (length (old s) - at s) (old s) (t .write-triangles .last .1 .1 .0) ≡ overwrite (at s) (list s (promised s)) (old s)
+    putMid (at s) (length (old s) - at s) (old s) (t .write-triangles .last .1 .1 .0) ≡ overwrite (at s) (list s) (old s)
 written t =
     let s = begun t in
-    lent-from (at s) (list s (promised s)) (old s)
-    (t .write-triangles .ensures .1 ∙ (λ j. placed (whole t j) (list s (s .pre .1 .1 .0 j)) (lent s)))
+    lent-from (at s) (list s) (old s)
+    (t .write-triangles .ensures .1 ∙ (λ j. placed (whole t j) (list s) (lent s)))
 
 -- the entry that is written is the body's
 abbrev counting : tie.After-triangle-count → tie.After-divisions
@@ -124,10 +114,9 @@ entry : (c : tie.After-triangle-count) → let s = begun (entering (counting c))
 entry c =
     let s = begun (entering (counting c)) in
     let a = s .args in
-    let has-vertices = c .before .before .vertex-count .ensures ∙ ap vertexCount (s .pre .1 .1 .0) in
-    let vertices = has-vertices ∙ sym (vertices-counted (a .description) (now (a .curve)) (s .pre .1 .0)) in
-    let has-triangles = c .triangle-count .ensures ∙ ap triangleCount (s .pre .1 .1 .0) in
-    let triangles = has-triangles ∙ sym (triangles-counted (a .description) (now (a .curve)) (s .pre .1 .0)) in
+    let room = fit s .vertices .1 in
+    let vertices = c .before .before .vertex-count .ensures ∙ sym (stretch-counted (a .totals .vertices) (vertexCount (a .body)) (now (a .vertices)) room) in
+    let triangles = c .triangle-count .ensures ∙ sym (permitted-claims (a .body) (s .pre .0) .0 .triangles) in
     (λ j. record {
       kind = counting c .before .kind-number .ensures j;
       divisions = counting c .divisions .ensures j;
@@ -137,9 +126,8 @@ entry c =
       triangles = triangles j;
     })
 
-write-stretch-requires : tie.Need-write-stretch-requires
-write-stretch-requires c κs = let s = c .before .before .before .before .before in
-    (s .pre .0, (s .pre .1 .0, (s .pre .1 .1 .0, fit s .vertices)))
+settle-requires : tie.Need-settle-requires
+settle-requires c κs = fit (c .before .before .before .before) .vertices
 
 same-length : tie.Need-same-length
 same-length c = search needs
@@ -147,7 +135,7 @@ same-length c = search needs
 returns : tie.Need-returns
 returns c = let w = c .before .before .before in
     let s = start w in
-    let finite = not-true (w .write-stretch .result) (c .if1 .taken) in
+    let finite = not-true (w .settle .result) (c .if1 .taken) in
     (λ j. after (refused notFinite) (now (s .args .table)) (left w finite j) (now (s .args .triangles))) ∙ settled w finite
 
 mul-at : tie.Need-mul-at
@@ -177,23 +165,23 @@ kind-number-requires c κs = search needs
 divisions-requires : tie.Need-divisions-requires
 divisions-requires c κs = search needs
 
-cast-t22 : tie.Need-cast-t22
-cast-t22 c = omega (arith, fit (begun (entering c)))
+cast-t21 : tie.Need-cast-t21
+cast-t21 c = omega (arith, fit (begun (entering c)))
 
 vertex-count-requires : tie.Need-vertex-count-requires
 vertex-count-requires c κs = search needs
 
-cast-t24 : tie.Need-cast-t24
-cast-t24 c = omega (arith, fit (begun (entering (c .before))), c .vertex-count .ensures)
+cast-t23 : tie.Need-cast-t23
+cast-t23 c = omega (arith, fit (begun (entering (c .before))), c .vertex-count .ensures)
 
-cast-t25 : tie.Need-cast-t25
-cast-t25 c = omega (arith, fit (begun (entering (c .before .before))))
+cast-t24 : tie.Need-cast-t24
+cast-t24 c = omega (arith, fit (begun (entering (c .before .before))))
 
 triangle-count-requires : tie.Need-triangle-count-requires
 triangle-count-requires c κs = search needs
 
-cast-t27 : tie.Need-cast-t27
-cast-t27 c = omega (arith, fit (begun (entering (counting c))), c .triangle-count .ensures)
+cast-t26 : tie.Need-cast-t26
+cast-t26 c = omega (arith, fit (begun (entering (counting c))), c .triangle-count .ensures)
 
 write-entry-requires : tie.Need-write-entry-requires
 write-entry-requires c κs = fit (begun (entering (counting (c .before)))) .entry
@@ -212,7 +200,7 @@ returns-2 c = let e = c .before .before .before .before in
     let t = entering (counting e) in
     let w = t .before .before .before .before .before .before in
     let s = start w in
-    let finite = not-false (w .write-stretch .result) (t .before .before .before .if1 .left) in
+    let finite = not-false (w .settle .result) (t .before .before .before .if1 .left) in
     let table = c .before .before .write-entry .ensures ∙ (λ j. withEntry (s .args .totals .bodies) (entry e j) (now (s .args .table))) in
     (λ j. after (accepted tt) (table j) (left w finite j) (written t j)) ∙ settled w finite
 
@@ -220,7 +208,7 @@ pub place-spec : {M : Type 1} → statement M
 place-spec =
     tie.close
     (tie.spec
-    write-stretch-requires
+    settle-requires
     same-length
     returns
     mul-at
@@ -232,12 +220,12 @@ place-spec =
     write-triangles-requires
     kind-number-requires
     divisions-requires
-    cast-t22
+    cast-t21
     vertex-count-requires
+    cast-t23
     cast-t24
-    cast-t25
     triangle-count-requires
-    cast-t27
+    cast-t26
     write-entry-requires
     same-length-2
     same-length-3
