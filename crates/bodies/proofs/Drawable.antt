@@ -1,7 +1,7 @@
 -- Which bodies can be drawn, by what the tests of the code tell. Assumes nothing.
 use mathlib.Core.Path.{_≡_, sym, ap, subst}
 use mathlib.Core.Bool.{true, false, _&&_}
-use mathlib.Core.List.{List}
+use mathlib.Core.List.{List, []}
 use Prim.Native.Nat.{ℕ, _*_, _%_, _≤_, _<_}
 use borrow.Author.Tests.{eq-eqb, ne-eqb, le-leb, lt-leb, leb-true}
 use lib.Dec.{eqb, leb}
@@ -15,7 +15,7 @@ use Rattle.descriptions.specs.Answers.{isAccepted, refused, accepted}
 use Rattle.descriptions.specs.Descriptions.{topologyOf}
 use Rattle.descriptions.specs.Refusals.{shapeTests, ShapePermitted, shapeOf}
 use Rattle.descriptions.specs.declared.description.Description.{Description}
-use Rattle.descriptions.proofs.FirstOf.{accepted-by, all-permitted}
+use Rattle.descriptions.proofs.FirstOf.{accepted-by, all-permitted, passed-by}
 use Rattle.bodies.specs.Bodies.{drawable}
 
 module _ (d : Description) (c : List Float) (room : ℕ) where
@@ -48,6 +48,12 @@ module _ (d : Description) (c : List Float) (room : ℕ) where
   no-room whole shape short =
       let less : room < fits = subst (λ (k : ℕ). room < k) (same-count shape) short in
       λ j. eq-eqb (length c % 3) 0 whole j && (isAccepted (sym shape j) && lt-leb fits room less j)
+
+  -- of a permitted shape, the room alone decides
+  pub room-alone : length c % 3 ≡ 0 → ShapePermitted d N → drawable d c room ≡ leb fits room
+  unfolding drawable
+  room-alone whole shape =
+      λ j. eq-eqb (length c % 3) 0 whole j && (isAccepted (sym (passed-by (shapeTests d N) [] (topologyOf d N) shape) j) && leb fits room)
 
   tests : drawable d c room ≡ true → (isAccepted (shapeOf d N) ≡ true) × (leb fits room ≡ true)
   unfolding drawable

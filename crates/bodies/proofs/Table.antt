@@ -1,14 +1,11 @@
 -- A table of points: each of them, where it was written, and four of the directions round a ring. Assumes nothing.
 use mathlib.Core.Path.{_≡_, refl, ap, _∙_}
-use mathlib.Core.Bool.{Bool}
 use mathlib.Core.List.{List, _++_}
 use Prim.Native.Nat.{ℕ, _+_, _-_, _*_, _≤_, _<_}
 use native.Mathlib.Omega.{arith}
-use borrow.Author.Tests.{le-leb}
-use lib.Dec.{leb}
 use lib.Ieee.{Float, nan}
 use lib.ListN.{length, getD}
-use Rattle.laws.specs.Overwrite.{overwrite, placed, length-overwrite, getD-within}
+use Rattle.laws.specs.Overwrite.{overwrite, length-overwrite, getD-within}
 use Rattle.laws.specs.Blocks.{blocks, length-blocks, getD-blocks}
 use Rattle.vec3.specs.Points.{coordinates, thrice}
 use Rattle.vec3.specs.Turns.{pair, turnOf}
@@ -43,11 +40,10 @@ module _ (at n : ℕ) (point : ℕ → Point) (t₀ : List Float) where
     z = coordinate k 2 {q = q + 2} room h (omega arith) (omega arith) i;
   }
 
--- the table that `fill_directions` writes
-pub written-along : (chain : Chain) (count : ℕ) (c t₀ : List Float) {r : Bool} {t : List Float} → count * 3 ≤ length t₀ → r ≡ leb (count * 3) (length t₀)
-    → t ≡ placed r (directionsOf chain count c) t₀ → Along chain count c t
-written-along chain count c t₀ {r} {t} h is so =
-    let whole : t ≡ overwrite 0 (directionsOf chain count c) t₀ = so ∙ ap (λ (b : Bool). placed b (directionsOf chain count c) t₀) (is ∙ le-leb _ _ h) in
+-- the table at whose front the directions were written
+pub written-along : (chain : Chain) (count : ℕ) (c t₀ : List Float) {t : List Float} → count * 3 ≤ length t₀
+    → t ≡ overwrite 0 (directionsOf chain count c) t₀ → Along chain count c t
+written-along chain count c t₀ h whole =
     record {
       room = omega (arith, ap length whole, length-overwrite 0 (directionsOf chain count c) t₀);
       direction = λ k l. ap (λ (t : List Float). pointAt t (k * 3)) whole ∙ table-direction-at chain count c t₀ k h l (omega arith);

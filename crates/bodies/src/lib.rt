@@ -2,6 +2,7 @@
 mod caps;
 mod checked;
 mod directions;
+mod draw;
 mod points;
 mod polyline3;
 mod polyloop3;

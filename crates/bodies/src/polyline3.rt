@@ -17,7 +17,6 @@ use crate::swept::write_inner;
 use crate::turns::ROUND;
 use crate::turns::fill_turns;
 use curve::Carried;
-use descriptions::MOST_DIRECTIONS;
 use rings::side;
 use surface::Chain;
 use surface::End;
@@ -29,19 +28,19 @@ pub(crate) fn set_vtx2xyz_for_generalized_cylinder_open_end(
     out: &mut [f32],
     curve: &[f32],
     directions: &[f32],
+    ez: &mut [f32],
     m: u16,
     n: u16,
     r: f32,
 )
-    requires { ⌜ (1 ≤ m) × (m ≤ 4096) × (n ≤ 256) × ((m + 1) * (n * 3) ≤ length (now out)) ⌝ }
+    requires { ⌜ (1 ≤ m) × (m * 3 ≤ length (now ez)) × (n ≤ 256) × ((m + 1) * (n * 3) ≤ length (now out)) ⌝ }
     requires { ⌜ Along Open m (now curve) (now directions) ⌝ }
     ensures { λ _. ⌜ now (out .exit) ≡ overwrite 0 (tubeVertices n r m (now (curve .entry))) (now (out .entry)) ⌝ }
 {
     let mut cosines = [0.0f32; ROUND];
     let mut sines = [0.0f32; ROUND];
     fill_turns(n, &mut cosines, &mut sines);
-    let mut ez = [0.0f32; MOST_DIRECTIONS];
-    fill_framez(m, directions, &mut ez);
+    fill_framez(m, directions, ez);
     let size = n as usize * 3;
     let start = Carried::first(point(directions, 0));
     let first = side(Chain::Open, axes_on(curve, 0, start), r);
@@ -53,7 +52,7 @@ pub(crate) fn set_vtx2xyz_for_generalized_cylinder_open_end(
         m,
         curve,
         directions,
-        &ez,
+        ez,
         start,
         r,
         n,
@@ -69,20 +68,20 @@ pub(crate) fn to_trimesh3_capsule(
     out: &mut [f32],
     curve: &[f32],
     directions: &[f32],
+    ez: &mut [f32],
     m: u16,
     n: u16,
     longitudes: u16,
     r: f32,
 )
-    requires { ⌜ (m ≤ 4096) × CapsuleFits m n longitudes (length (now out)) ⌝ }
+    requires { ⌜ (m * 3 ≤ length (now ez)) × CapsuleFits m n longitudes (length (now out)) ⌝ }
     requires { ⌜ Along Open m (now curve) (now directions) ⌝ }
     ensures { λ _. ⌜ now (out .exit) ≡ overwrite 0 (capsuleVertices n longitudes r m (now (curve .entry))) (now (out .entry)) ⌝ }
 {
     let mut cosines = [0.0f32; ROUND];
     let mut sines = [0.0f32; ROUND];
     fill_turns(n, &mut cosines, &mut sines);
-    let mut ez = [0.0f32; MOST_DIRECTIONS];
-    fill_framez(m, directions, &mut ez);
+    fill_framez(m, directions, ez);
     let size = n as usize * 3;
     let cap = longitudes as usize * size;
     let start = Carried::first(point(directions, 0));
@@ -106,7 +105,7 @@ pub(crate) fn to_trimesh3_capsule(
         m,
         curve,
         directions,
-        &ez,
+        ez,
         start,
         r,
         n,

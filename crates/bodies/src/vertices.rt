@@ -3,25 +3,31 @@ ghost use Prim.Native.Nat.{_*_, _/_, _≤_};
 ghost use lib.ListN.{length};
 ghost use Rattle.laws.specs.Overwrite.{overwrite, placed};
 ghost use Rattle.kinds.specs.Kinds.{vertexCount};
-ghost use Rattle.descriptions.specs.Descriptions.{topologyOf};
+ghost use Rattle.descriptions.specs.Descriptions.{segmentCount, topologyOf};
 ghost use Rattle.descriptions.specs.Refusals.{ShapePermitted};
 ghost use Rattle.bodies.specs.Bodies.{verticesOf, drawable};
 ghost use Rattle.bodies.specs.Tables.{AlongCurve};
-use crate::directions::fill_along;
+use crate::draw::draw;
 use crate::polyline3::set_vtx2xyz_for_generalized_cylinder_open_end;
 use crate::polyline3::to_trimesh3_capsule;
 use crate::polyline3::to_trimesh3_ribbon;
 use crate::polyloop3::to_trimesh3_torus;
 use crate::trimesh3_primitive::cylinder_closed_end_yup;
 use descriptions::Description;
-use descriptions::MOST_DIRECTIONS;
 use descriptions::Verdict;
 
 // The vertices of a body that 10, 20 and 21 permit, from the table of its curve's directions.
-pub(crate) fn fill(description: Description, curve: &[f32], directions: &[f32], out: &mut [f32])
+pub(crate) fn fill(
+    description: Description,
+    curve: &[f32],
+    directions: &[f32],
+    ez: &mut [f32],
+    out: &mut [f32],
+)
     requires { ⌜ ShapePermitted description (length (now curve) / 3) ⌝ }
     requires { ⌜ 3 * vertexCount (topologyOf description (length (now curve) / 3)) ≤ length (now out) ⌝ }
     requires { ⌜ AlongCurve description (now curve) (now directions) ⌝ }
+    requires { ⌜ segmentCount description (length (now curve) / 3) * 3 ≤ length (now ez) ⌝ }
     ensures { λ _. ⌜ now (out .exit) ≡ overwrite 0 (verticesOf description (now (curve .entry))) (now (out .entry)) ⌝ }
 {
     let count = curve.len() / 3;
@@ -37,6 +43,7 @@ pub(crate) fn fill(description: Description, curve: &[f32], directions: &[f32], 
                 out,
                 curve,
                 directions,
+                ez,
                 (count - 1) as u16,
                 n as u16,
                 radius,
@@ -51,6 +58,7 @@ pub(crate) fn fill(description: Description, curve: &[f32], directions: &[f32], 
                 out,
                 curve,
                 directions,
+                ez,
                 (count - 1) as u16,
                 n as u16,
                 l as u16,
@@ -86,9 +94,7 @@ pub fn write_vertices(description: Description, curve: &[f32], out: &mut [f32]) 
             if 3 * body.vertex_count() > out.len() as u64 {
                 return false;
             }
-            let mut directions = [0.0f32; MOST_DIRECTIONS];
-            fill_along(description, curve, &mut directions);
-            fill(description, curve, &directions, out);
+            draw(description, curve, true, true, out);
             true
         }
     }

@@ -22,13 +22,13 @@ use Rattle.bodies.proofs.polyline3.set_vtx2xyz_for_generalized_cylinder
 
 -- from the first segment back to the tables and to the function's start, and from the first ring back to the first segment
 abbrev framez : tie.After-first → tie.After-fill-framez
-framez c = c .before .before .before
+framez c = c .before .before .before .before
 
 abbrev turns : tie.After-first → tie.After-fill-turns
-turns c = c .before .before .before .before .before .before .before
+turns c = c .before .before .before .before .before .before .before .before
 
 abbrev entry : tie.After-first → tie.Start
-entry c = c .before .before .before .before .before .before .before .before .before .before .before .before .before
+entry c = c .before .before .before .before .before .before .before .before .before .before .before .before .before .before .before
 
 abbrev carrying : tie.After-write-ring → tie.After-first
 carrying c = c .before .before .before .before .before .before
@@ -56,9 +56,6 @@ slice-aggregate-fill-turns-2 c = search needs
 fill-turns-requires : tie.Need-fill-turns-requires
 fill-turns-requires c κs = search needs
 
-slice-aggregate-fill-framez : tie.Need-slice-aggregate-fill-framez
-slice-aggregate-fill-framez c = search needs
-
 fill-framez-requires : tie.Need-fill-framez-requires
 fill-framez-requires c κs = search needs
 
@@ -78,7 +75,7 @@ side-requires : tie.Need-side-requires
 side-requires c κs = search needs
 
 slice-aggregate-write-ring : tie.Need-slice-aggregate-write-ring
-slice-aggregate-write-ring c = search needs
+slice-aggregate-write-ring c = let f = c .before .before .before .before in search needs
 
 slice-aggregate-write-ring-2 : tie.Need-slice-aggregate-write-ring-2
 slice-aggregate-write-ring-2 c = search needs
@@ -87,13 +84,10 @@ write-ring-requires : tie.Need-write-ring-requires
 write-ring-requires c κs = let f = c .before .before .before .before .before in (omega (arith, room (entry f)), turns f .fill-turns .ensures)
 
 slice-aggregate-write-inner : tie.Need-slice-aggregate-write-inner
-slice-aggregate-write-inner c = search needs
+slice-aggregate-write-inner c = let f = carrying (c .before .before .before .before .before) in search needs
 
 slice-aggregate-write-inner-2 : tie.Need-slice-aggregate-write-inner-2
-slice-aggregate-write-inner-2 c = let f = carrying (c .before .before .before .before .before) in search needs
-
-slice-aggregate-write-inner-3 : tie.Need-slice-aggregate-write-inner-3
-slice-aggregate-write-inner-3 c = let f = carrying (c .before .before .before .before .before .before) in search needs
+slice-aggregate-write-inner-2 c = let f = carrying (c .before .before .before .before .before .before) in search needs
 
 write-inner-requires : tie.Need-write-inner-requires
 write-inner-requires c κs = let w = c .before .before .before .before .before .before in
@@ -133,6 +127,9 @@ same-length : tie.Need-same-length
 same-length c = let e = c .before .before .before .before .before .before .before .before .before .before in
     c .before .before .write-ring2 .kept .0 ∙ e .write-inner .kept .0 ∙ e .before .before .before .before .before .before .before .write-ring .kept .0
 
+same-length-2 : tie.Need-same-length-2
+same-length-2 c = framez (carrying (c .before .before .before .before .before .before .before .before .before .before .before .before .before .before .before .before .before)) .fill-framez .kept .1 .1 .0
+
 returns : tie.Need-returns
 returns c = let y = c .before .before .before .before .before .before .before in
     let e = y .before .before .before in
@@ -158,7 +155,6 @@ set-vtx2xyz-for-generalized-cylinder-open-end-spec =
     slice-aggregate-fill-turns
     slice-aggregate-fill-turns-2
     fill-turns-requires
-    slice-aggregate-fill-framez
     fill-framez-requires
     mul-size
     point-requires
@@ -170,7 +166,6 @@ set-vtx2xyz-for-generalized-cylinder-open-end-spec =
     write-ring-requires
     slice-aggregate-write-inner
     slice-aggregate-write-inner-2
-    slice-aggregate-write-inner-3
     write-inner-requires
     axes-on-requires-2
     side-requires-2
@@ -179,4 +174,5 @@ set-vtx2xyz-for-generalized-cylinder-open-end-spec =
     slice-aggregate-write-ring-4
     write-ring-requires-2
     same-length
+    same-length-2
     returns)

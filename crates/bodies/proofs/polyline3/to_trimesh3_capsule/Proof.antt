@@ -47,13 +47,13 @@ five-written n L r m c t₀ {low} {high} {p} {q} {t₁} {t₂} {t₃} first bott
 
 -- from the first segment back to the tables and to the function's start, and from the bottom cap back to the first segment
 abbrev framez : tie.After-first → tie.After-fill-framez
-framez c = c .before .before .before
+framez c = c .before .before .before .before
 
 abbrev turns : tie.After-first → tie.After-fill-turns
-turns c = c .before .before .before .before .before .before .before
+turns c = c .before .before .before .before .before .before .before .before
 
 abbrev entry : tie.After-first → tie.Start
-entry c = c .before .before .before .before .before .before .before .before .before .before .before .before .before
+entry c = c .before .before .before .before .before .before .before .before .before .before .before .before .before .before .before
 
 abbrev pole : tie.After-write-cap → tie.After-put-point
 pole c = c .before .before .before .before .before .before
@@ -83,9 +83,6 @@ slice-aggregate-fill-turns-2 c = search needs
 fill-turns-requires : tie.Need-fill-turns-requires
 fill-turns-requires c κs = search needs
 
-slice-aggregate-fill-framez : tie.Need-slice-aggregate-fill-framez
-slice-aggregate-fill-framez c = search needs
-
 fill-framez-requires : tie.Need-fill-framez-requires
 fill-framez-requires c κs = search needs
 
@@ -93,7 +90,7 @@ mul-size : tie.Need-mul-size
 mul-size c = search needs
 
 mul-cap : tie.Need-mul-cap
-mul-cap c = let s = c .before .before .before .before .before .before .before .before .before .before .before in omega (arith, room s)
+mul-cap c = let s = c .before .before .before .before .before .before .before .before .before .before .before .before .before in omega (arith, room s)
 
 point-requires : tie.Need-point-requires
 point-requires c κs = search needs
@@ -117,7 +114,7 @@ slice-aggregate-write-cap : tie.Need-slice-aggregate-write-cap
 slice-aggregate-write-cap c = let f = carrying (c .before .before .before .before) in search needs
 
 slice-aggregate-write-cap-2 : tie.Need-slice-aggregate-write-cap-2
-slice-aggregate-write-cap-2 c = search needs
+slice-aggregate-write-cap-2 c = let f = carrying (c .before .before .before .before .before) in search needs
 
 write-cap-requires : tie.Need-write-cap-requires
 write-cap-requires c κs = let p = c .before .before .before .before .before in
@@ -129,13 +126,10 @@ add-write-inner : tie.Need-add-write-inner
 add-write-inner c = let s = entry (carrying (pole (c .before .before .before))) in omega (arith, room s)
 
 slice-aggregate-write-inner : tie.Need-slice-aggregate-write-inner
-slice-aggregate-write-inner c = search needs
+slice-aggregate-write-inner c = let f = carrying (pole (c .before .before .before .before .before)) in search needs
 
 slice-aggregate-write-inner-2 : tie.Need-slice-aggregate-write-inner-2
-slice-aggregate-write-inner-2 c = let f = carrying (pole (c .before .before .before .before .before)) in search needs
-
-slice-aggregate-write-inner-3 : tie.Need-slice-aggregate-write-inner-3
-slice-aggregate-write-inner-3 c = let f = carrying (pole (c .before .before .before .before .before .before)) in search needs
+slice-aggregate-write-inner-2 c = let f = carrying (pole (c .before .before .before .before .before .before)) in search needs
 
 write-inner-requires : tie.Need-write-inner-requires
 write-inner-requires c κs = let k = c .before .before .before .before .before .before in
@@ -205,6 +199,10 @@ same-length c = let q = c .before .before in
     let k = e .before .before .before .before .before .before .before in
     q .put-point2 .kept .0 ∙ t .write-cap2 .kept .0 ∙ e .write-inner .kept .0 ∙ k .write-cap .kept .0 ∙ pole k .put-point .kept .0
 
+same-length-2 : tie.Need-same-length-2
+same-length-2 c = let q = c .before .before in
+    framez (carrying (pole (q .before .before .before .before .before .before .before .before .before .before .before .before .before .before .before .before .before .before .before .before))) .fill-framez .kept .1 .1 .0
+
 returns : tie.Need-returns
 unfolding bottomPole topPole
 returns c = let q = c .before .before in
@@ -234,7 +232,6 @@ to-trimesh3-capsule-spec =
     slice-aggregate-fill-turns
     slice-aggregate-fill-turns-2
     fill-turns-requires
-    slice-aggregate-fill-framez
     fill-framez-requires
     mul-size
     mul-cap
@@ -250,7 +247,6 @@ to-trimesh3-capsule-spec =
     add-write-inner
     slice-aggregate-write-inner
     slice-aggregate-write-inner-2
-    slice-aggregate-write-inner-3
     write-inner-requires
     axes-on-requires-2
     add-top
@@ -265,4 +261,5 @@ to-trimesh3-capsule-spec =
     add-requires
     put-point-requires-2
     same-length
+    same-length-2
     returns)

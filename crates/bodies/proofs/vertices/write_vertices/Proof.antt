@@ -1,16 +1,19 @@
 -- A body that the shape's tests accept and that has room is filled; any other is left alone. Assumes nothing.
-use mathlib.Core.Path.{_≡_, refl, sym, subst}
+use mathlib.Core.Path.{_≡_, refl, sym, ap, _∙_, subst}
+use mathlib.Core.Bool.{Bool, true, _&&_}
 use Prim.Native.Nat.{ℕ, _*_, _/_, _≤_, _<_}
 use native.Mathlib.Omega.{arith}
 use borrow.Author.Needs.{needs}
 use denote.Ref.{now}
 use lib.ListN.{length}
+use Rattle.laws.specs.Overwrite.{overwrite, placed}
 use Rattle.kinds.specs.Kinds.{vertexCount}
 use Rattle.descriptions.specs.Answers.{accepted}
 use Rattle.descriptions.specs.Descriptions.{topologyOf}
 use Rattle.descriptions.specs.Refusals.{ShapePermitted, shapeTests, shapeOf}
 use Rattle.descriptions.proofs.FirstOf.{accepted-by}
 use Rattle.descriptions.proofs.Shapes.{counts-most, accepted-permitted}
+use Rattle.bodies.specs.Bodies.{verticesOf}
 use Rattle.bodies.proofs.Drawable.{same-count, drawn, not-whole, not-shaped, no-room}
 use Rattle.bodies.proofs.vertices.write_vertices.Statement.{statement}
 use Rattle.bodies.proofs.vertices.write_vertices.Tie as tie
@@ -59,29 +62,17 @@ returns-2 c = let b = c .before .before .before in
     let short = count (c .before) (λ k. length (now (a .out)) < k) (c .if2 .taken) in
     (sym (no-room (a .description) (now (a .curve)) (length (now (a .out))) (b .before .before .before .if1 .left) (answer b) short), refl)
 
-slice-aggregate-fill-along : tie.Need-slice-aggregate-fill-along
-slice-aggregate-fill-along c = search needs
-
 -- the shape is permitted
 shaped : (b : tie.After-body) → ShapePermitted (start b .args .description) (N (start b))
 shaped b = let s = start b in accepted-by (shapeTests (s .args .description) (N s)) (topologyOf (s .args .description) (N s)) (answer b) .1
 
-fill-along-requires : tie.Need-fill-along-requires
-fill-along-requires c κs = let b = c .before .before .before .before in (shaped b, omega arith)
-
-slice-aggregate-fill : tie.Need-slice-aggregate-fill
-slice-aggregate-fill c = search needs
-
-fill-requires : tie.Need-fill-requires
-fill-requires c κs = let f = c .before .before .before in
-    let e = f .before .before in
+draw-requires : tie.Need-draw-requires
+draw-requires c κs = let e = c .before in
     let b = e .before .before .before in
-    let s = start b in
-    let a = s .args in
-    let fits = count (e .before) (λ k. k ≤ length (now (a .out))) (e .if2 .left) in (
-      shaped b,
-      (subst (λ (k : ℕ). k ≤ length (now (a .out))) (same-count (a .description) (now (a .curve)) (length (now (a .out))) (answer b)) fits, f .fill-along .ensures),
-    )
+    let a = start b .args in
+    let fits = count (e .before) (λ k. k ≤ length (now (a .out))) (e .if2 .left) in
+    let room = subst (λ (k : ℕ). k ≤ length (now (a .out))) (same-count (a .description) (now (a .curve)) (length (now (a .out))) (answer b)) fits in
+    (shaped b, λ _. room)
 
 returns-3 : tie.Need-returns-3
 returns-3 c = let a = c .before .before .before .before .before .before .args in
@@ -91,13 +82,19 @@ returns-3 c = let a = c .before .before .before .before .before .before .args in
 same-length : tie.Need-same-length
 same-length c = search needs
 
+-- what a draw that asks for no 13 leaves
+drew : (d : tie.After-draw) → let a = start (d .before .before .before .before .before) .args in
+    d .draw .last .1 .1 .1 .1 .0 ≡ overwrite 0 (verticesOf (a .description) (now (a .curve))) (now (a .out))
+drew d = let a = start (d .before .before .before .before .before) .args in
+    d .draw .ensures .1 ∙ ap (λ (b : Bool). placed (b && true) (verticesOf (a .description) (now (a .curve))) (now (a .out))) (d .draw .ensures .0)
+
 returns-4 : tie.Need-returns-4
-returns-4 c = let e = c .before .before .before .before .before .before .before .before in
+returns-4 c = let e = c .before .before .before .before in
     let b = e .before .before .before in
     let a = start b .args in
     let fits = count (e .before) (λ k. k ≤ length (now (a .out))) (e .if2 .left) in (
       sym (drawn (a .description) (now (a .curve)) (length (now (a .out))) (b .before .before .before .if1 .left) (answer b) fits),
-      c .before .before .fill .ensures,
+      drew (c .before .before),
     )
 
 pub write-vertices-spec : {M : Type 1} → statement M
@@ -111,10 +108,7 @@ write-vertices-spec =
     vertex-count-requires
     mul-if2
     returns-2
-    slice-aggregate-fill-along
-    fill-along-requires
-    slice-aggregate-fill
-    fill-requires
+    draw-requires
     returns-3
     same-length
     returns-4)
