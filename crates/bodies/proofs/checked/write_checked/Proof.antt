@@ -67,9 +67,10 @@ settled : (d : tie.After-draw) {r : Bool} → d .draw .result ≡ r → let b = 
     × (d .draw .last .1 .1 .1 .1 .0 ≡ left s (r && written s))
 settled d is =
     let b = placing d .before .before .before in
-    let s = start b in
-    (fold-answer (s .args .description) (now (s .args .curve)) (answer b) (sym is ∙ d .draw .ensures .0),
-    d .draw .ensures .1 ∙ (λ j. left s (is j && is-written (placing d) j)))
+    let s = start b in (
+      fold-answer (s .args .description) (now (s .args .curve)) (answer b) (sym is ∙ d .draw .ensures .0),
+      d .draw .ensures .1 ∙ (λ j. left s (is j && is-written (placing d) j)),
+    )
 
 check-segments-requires : tie.Need-check-segments-requires
 check-segments-requires c κs = search needs
