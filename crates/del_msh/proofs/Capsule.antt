@@ -10,13 +10,13 @@ use lib.Ieee.{Float, neg}
 use lib.ListN.{length, length-append}
 use Rattle.laws.specs.Overlaps.{overwrite-all}
 use Rattle.surface.specs.declared.caps.End.the-variants.{Bottom, Top}
-use Rattle.vec3.specs.Points.{times, sumOf, differenceOf, scaled}
+use Rattle.vec3.specs.Points.{coordinates, times, sumOf, differenceOf, scaled}
 use Rattle.vec3.specs.Turns.{turnOf}
 use Rattle.vec3.specs.declared.points.Point.{Point}
 use Rattle.vec3.specs.declared.turns.Direction.{Direction}
 use Rattle.kinds.specs.Lists.{closedTriangles}
 use Rattle.curve.specs.Segments.{verticesIn}
-use Rattle.rings.specs.Vertices.{coordinates, bottomPole, topPole, bottomVertex, topVertex, capVertex}
+use Rattle.rings.specs.Vertices.{bottomPole, topPole, bottomVertex, topVertex, capVertex}
 use Rattle.bodies.specs.Polyline3 as paper
 use Rattle.bodies.specs.Capsule.{capsuleVertices}
 use Rattle.del_msh.specs.Arrays.{minus, Outside, read, one}

@@ -8,11 +8,11 @@ use borrow.Author.Tests.{lt-ltb, le-leb}
 use lib.Ieee.{Float, binary32, ofBits, add, div, neg}
 use lib.ListN.{length, length-append, length-replicate}
 use Rattle.laws.specs.Overlaps.{overwrite-all}
-use Rattle.vec3.specs.Points.{plus, times, over}
+use Rattle.vec3.specs.Points.{coordinates, plus, times, over}
 use Rattle.vec3.specs.Turns.{whole}
 use Rattle.vec3.specs.declared.points.Point.{Point}
 use Rattle.vec3.specs.declared.turns.Direction.{Direction}
-use Rattle.rings.specs.Vertices.{coordinates, levelVertex, pole}
+use Rattle.rings.specs.Vertices.{levelAt, levelVertex, pole}
 use Rattle.kinds.specs.Lists.{closedTriangles}
 use Rattle.bodies.specs.ClosedCylinder.{lowOf, cylinderVertices}
 use Rattle.del_msh.specs.Vectors.{vec}
@@ -55,7 +55,7 @@ module _ (outside : Outside) (r l : Float) (n S : ℕ) (centred : Bool) (three :
   top = pole (plus (lowOf centred l) l)
 
   yup-vertices : cylinder-closed-end-yup outside r l n S centred .1 ≡ ((bottom ∷ []) ++ rings) ++ (top ∷ [])
-  unfolding cylinder-closed-end-yup levelVertex cos sin
+  unfolding cylinder-closed-end-yup levelAt cos sin
   yup-vertices =
       let room = n * (S + 1) + 2 in
       let t₀ = vec zeros room in
