@@ -4,7 +4,7 @@
  *
  *     cc -std=c99 -I include station.c target/staticlib/libtogbefulo.a -o station
  *
- * The library allocates nothing, prints nothing, keeps nothing between two calls, takes less than 16 KiB of stack and
+ * The library allocates nothing, prints nothing, keeps nothing between two calls, takes less than 128 KiB of stack and
  * needs memset alone of the C library. Threads may call it at the same time, each with its own buffers. It counts on
  * the floating-point state with which a program starts: rounding to nearest, no traps, subnormal numbers kept. A
  * program that is linked with -ffast-math may start otherwise, and gets other floats then.

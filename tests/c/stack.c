@@ -7,7 +7,7 @@
 #include <string.h>
 #include <ucontext.h>
 
-enum { STACK = 65536, SAID = 16384, PAINT = 0xA5, CURVE = 30, VERTICES = 3 * 20000, TRIANGLES = 3 * 40000 };
+enum { STACK = 262144, SAID = 131072, PAINT = 0xA5, CURVE = 300, VERTICES = 3 * 90000, TRIANGLES = 3 * 180000 };
 
 static unsigned char stack[STACK];
 static ucontext_t here, there;
