@@ -54,8 +54,8 @@
  *   triangles  three vertex numbers a triangle, counted from the set's first vertex, body after body
  *
  * togbefulo_clear comes first. togbefulo_counts says how many vertices and triangles a body has; one that fits exactly
- * is accepted. A table that was changed by hand is answered 1, or, where a set could have it, taken as it stands; no call
- * leaves its buffers for it.
+ * is accepted. A table that was changed by hand is answered 1 where what 1 names is wrong; otherwise it is taken as it
+ * stands, since divisions and counts are not looked at. No call leaves its buffers for it.
  *
  *
  * ANSWERS
@@ -153,7 +153,7 @@ uint32_t togbefulo_clear(uint32_t *table, size_t table_len);
 /* Adds a body behind those that stand in the set. It writes the body's vertices, its triangles, its entry and word 0,
  * and no other element.
  * Answers 0, 1, 10, 20, 21, 22, 11, 12, 13, 2, 3, 4 or 23, in this order, or 4294967295. 23 alone leaves a trace: the
- * floats that the body's vertices would have had are 0. The set is whole and can be used on whatever the answer is. */
+ * floats that the body's vertices would have had are 0. The set can be used on whatever the answer is, unless it is 1. */
 uint32_t togbefulo_add(uint32_t kind, uint32_t divisions, uint32_t steps, bool centred, float size, float length,
                        const float *curve, size_t curve_len,
                        uint32_t *table, size_t table_len,
@@ -216,8 +216,8 @@ static inline size_t togbefulo_file_words(const uint32_t *table, size_t table_le
 /* ---- A body alone ---- */
 
 /* Writes the vertices of a body to the front of `out`: 3 * counts[0] floats, and leaves the rest of it untouched.
- * Answers true. Where togbefulo_counts would answer 10, 20 or 21, the kind is unknown or `out` is too short, it answers
- * false and writes nothing. Neither sizes nor coordinates are looked at: what is not finite is worked with, so that
+ * Answers true. Where togbefulo_counts would answer 10, 20 or 21, curve_len is no multiple of 3, the kind is unknown or
+ * `out` is too short, it answers false and writes nothing. Neither sizes nor coordinates are looked at: what is not finite is worked with, so that
  * togbefulo_check comes first, and togbefulo_are_finite after it. */
 bool togbefulo_vertices(uint32_t kind, uint32_t divisions, uint32_t steps, bool centred, float size, float length,
                         const float *curve, size_t curve_len,

@@ -16,7 +16,7 @@ use std::{
 #[derive(Clone, Copy, Debug, PartialEq, Eq, Hash, PartialOrd, Ord)]
 #[repr(u32)]
 pub enum Refusal {
-    /// 1: the table is empty, or what it says cannot be.
+    /// 1: the table is empty, or its number of bodies, a kind, a first vertex or triangle, or a total is wrong.
     DamagedTable = 1,
     /// 2: the set has 64 bodies, or its table no six words more.
     NoEntry = 2,

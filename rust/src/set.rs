@@ -37,7 +37,7 @@ pub struct Entry {
 }
 
 /// A set of at most 64 bodies, side by side in three buffers that are lent to it: a table of contents of
-/// [`TABLE_WORDS`] words or fewer, vertices of three floats each, triangles of three vertex numbers each.
+/// 1 and 6 words a body ([`TABLE_WORDS`] for all 64), vertices of three floats each, triangles of three vertex numbers each.
 ///
 /// It holds the buffers alone, so that its table is sound as long as it lives. When it goes, they hold the set, and
 /// [`Set::open`] takes it up again.
@@ -85,8 +85,9 @@ impl<'a> Set<'a> {
         })
     }
 
-    /// The set that stands in these buffers, with nothing written; [`Refusal::DamagedTable`] where the table is empty
-    /// or what it says cannot be.
+    /// The set that stands in these buffers, with nothing written; [`Refusal::DamagedTable`] where the table is empty,
+    /// or its number of bodies, a kind, a first vertex or triangle, or a total is wrong. Divisions and counts are not
+    /// looked at.
     ///
     /// ```
     /// use togbefulo::{Description, Refusal, Set};

@@ -26,8 +26,8 @@ use Rattle.del_msh.proofs.Tube.{tube-floats}
 use Rattle.del_msh.proofs.Capsule.{capsule-floats, capsule-triangles}
 use Rattle.del_msh.proofs.Torus.{torus-floats, torus-triangles}
 
--- So no assignment lies outside its list and no assert fails, since nothing would be left then, and nothing hangs on a read past an end, a
--- difference below zero or a quotient by zero, whatever these would give.
+-- An assignment outside its list would leave nothing of it, an assert that fails nothing of the list that it stands beside; it holds whatever a
+-- read past an end, a difference below zero or a quotient by zero would give.
 pub rust-body : (outside : Outside) (d : Description) (c : List Float) → Asked d (verticesIn c) → rustBody outside d c ≡ paperBody d c
 unfolding cylinder-open-end-number-of-tri-and-vtx
 rust-body outside (Ribbon width) c two =

@@ -47,6 +47,7 @@ pub fn print(case: &Case, span: Duration) {
     }
     print_line("together", times.map(|parts| parts.iter().sum()));
     println!("  SSE2 and plain tell in the part of the vertices whether these are finite");
+    println!("  proved, each part alone: checks and vertices both work out the directions, an addition once");
 }
 
 fn print_line(name: &str, [proved, sse2, plain]: [f64; 3]) {

@@ -95,6 +95,8 @@ pub fn measure(case: &Case, span: Duration) -> Result<Measured, String> {
 fn compare(case: &Case, buffers: &mut Buffers) -> Result<(), String> {
     let mut proved: Option<Buffers> = None;
     for side in &SIDES {
+        // Entries that another side wrote must not stand in for this side's own.
+        buffers.table.fill(u32::MAX);
         let refused = side.clear(buffers) as usize + side.add_all(&case.list, buffers);
         let proved = proved.get_or_insert_with(|| buffers.clone());
         if refused > 0 || !buffers.is_same(proved) {
