@@ -24,14 +24,21 @@
  *
  * DESCRIPTIONS
  *
- * A description is six arguments, and a body is made of a description and a curve. What a kind lacks is ignored.
+ * A description is six arguments, and a body is made of a description and a curve. An argument that a kind lacks is
+ * ignored; a closed cylinder lacks a curve, and is answered 10 where one is handed over.
  *
  *   kind                           divisions  steps               centred    size    length   curve, in vertices
  *   TOGBEFULO_RIBBON           1                                             width            open, 2 to 4096
  *   TOGBEFULO_TUBE             2   3 to 256                                  radius           open, 2 to 4096
- *   TOGBEFULO_CAPSULE          3   3 to 256   longitudes, 0-256              radius           open, 2 to 4096
+ *   TOGBEFULO_CAPSULE          3   3 to 256   longitudes, 0..256             radius           open, 2 to 4096
  *   TOGBEFULO_TORUS            4   3 to 256                                  radius           closed, 3 to 4096
  *   TOGBEFULO_CLOSED_CYLINDER  5   3 to 256   layers, 1 to 4096   yes or no  radius  length   none
+ *
+ *   ribbon           a band: one edge is the curve, the other lies beside it, at the distance of the width
+ *   tube             a ring of vertices round each vertex of the curve, open at both ends
+ *   capsule          the same, with a round cap at each end, which reaches past the curve's end by the radius
+ *   torus            a tube along a closed curve
+ *   closed cylinder  round the axis y, flat at both ends
  *
  *   divisions  corners of the body's cross section
  *   steps      longitude divisions of a capsule's cap, or layers of a closed cylinder. Twice the longitudes and the
@@ -54,8 +61,9 @@
  *   triangles  three vertex numbers a triangle, counted from the set's first vertex, body after body
  *
  * togbefulo_clear comes first. togbefulo_counts says how many vertices and triangles a body has; one that fits exactly
- * is accepted. A table that was changed by hand is answered 1 where what 1 names is wrong; otherwise it is taken as it
- * stands, since divisions and counts are not looked at. No call leaves its buffers for it.
+ * is accepted. A table that was changed by hand is answered 1 where it has one of the faults listed for 1 below;
+ * otherwise it is taken as it stands, since divisions and counts are not looked at. Whatever it says, no call reads or
+ * writes outside the buffers.
  *
  *
  * ANSWERS
@@ -153,7 +161,8 @@ uint32_t togbefulo_clear(uint32_t *table, size_t table_len);
 /* Adds a body behind those that stand in the set. It writes the body's vertices, its triangles, its entry and word 0,
  * and no other element.
  * Answers 0, 1, 10, 20, 21, 22, 11, 12, 13, 2, 3, 4 or 23, in this order, or 4294967295. 23 alone leaves a trace: the
- * floats that the body's vertices would have had are 0. The set can be used on whatever the answer is, unless it is 1. */
+ * floats that the body's vertices would have had are 0. Unless the answer is 1, the set is as it was or has one body
+ * more, and further bodies can be added. */
 uint32_t togbefulo_add(uint32_t kind, uint32_t divisions, uint32_t steps, bool centred, float size, float length,
                        const float *curve, size_t curve_len,
                        uint32_t *table, size_t table_len,
@@ -161,7 +170,7 @@ uint32_t togbefulo_add(uint32_t kind, uint32_t divisions, uint32_t steps, bool c
                        uint32_t *triangles, size_t triangles_len);
 
 /* Counts the vertices and triangles of a body, from its description and the number of vertices (not of floats) of its
- * curve: counts[0] vertices, which take 3 * counts[0] floats, and counts[1] triangles, which take 3 * counts[1] words.
+ * curve, `vertices`: counts[0] vertices, which take 3 * counts[0] floats, and counts[1] triangles, which take 3 * counts[1] words.
  * Answers 0, 10, 20, 21 or 22, in this order, or 4294967295. Where it is not 0, `counts` is untouched. */
 uint32_t togbefulo_counts(uint32_t kind, uint32_t divisions, uint32_t steps, bool centred, float size, float length,
                           size_t vertices, uint32_t counts[TOGBEFULO_AT_LEAST 2]);
@@ -217,8 +226,8 @@ static inline size_t togbefulo_file_words(const uint32_t *table, size_t table_le
 
 /* Writes the vertices of a body to the front of `out`: 3 * counts[0] floats, and leaves the rest of it untouched.
  * Answers true. Where togbefulo_counts would answer 10, 20 or 21, curve_len is no multiple of 3, the kind is unknown or
- * `out` is too short, it answers false and writes nothing. Neither sizes nor coordinates are looked at: what is not finite is worked with, so that
- * togbefulo_check comes first, and togbefulo_are_finite after it. */
+ * `out` is too short, it answers false and writes nothing. Neither sizes nor coordinates are looked at: what is not
+ * finite is worked with, so that togbefulo_check comes first, and togbefulo_are_finite after it. */
 bool togbefulo_vertices(uint32_t kind, uint32_t divisions, uint32_t steps, bool centred, float size, float length,
                         const float *curve, size_t curve_len,
                         float *out, size_t out_len);

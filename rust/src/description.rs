@@ -130,7 +130,8 @@ impl Description {
         }
     }
 
-    /// The record of a body, as [`crate::Set::build`] and the program `sweep` read it.
+    /// The record of a body, as [`crate::Set::build`] and the program `sweep` read it. They end their list at a record of
+    /// more than 512 curve vertices.
     ///
     /// ```
     /// use togbefulo::Description;

@@ -4,7 +4,7 @@
 //! where the length is 0 the pointer may be null. A buffer that a call writes shares no element with another one of the
 //! call. `counts` and `word` are never null.
 //!
-//! This file has every `unsafe` of the crate; the functions below the declarations lend slices to them.
+//! This file has every `unsafe` of the crate: the crate's own functions call these through slices.
 
 #![allow(unsafe_code)]
 

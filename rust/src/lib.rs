@@ -7,7 +7,7 @@
 //!
 //! The code that does the work is `libtogbefulo.a`, for x86-64 Linux; its functions stand in [`ffi`]. It is
 //! linked from `../target/staticlib`, where `rt staticlib togbefulo` leaves it, or from the folder that the environment
-//! variable `TOGBEFULO_LIB_DIR` names; both paths begin at the folder of this crate.
+//! variable `TOGBEFULO_LIB_DIR` names; a relative path begins at the folder of this crate.
 //!
 //! ```
 //! use togbefulo::{Description, Refusal, Set, TABLE_WORDS};

@@ -37,7 +37,8 @@ pub struct Entry {
 }
 
 /// A set of at most 64 bodies, side by side in three buffers that are lent to it: a table of contents of
-/// 1 and 6 words a body ([`TABLE_WORDS`] for all 64), vertices of three floats each, triangles of three vertex numbers each.
+/// one word, and six a body ([`TABLE_WORDS`] for all 64), vertices of three floats each, triangles of three vertex
+/// numbers each.
 ///
 /// It holds the buffers alone, so that its table is sound as long as it lives. When it goes, they hold the set, and
 /// [`Set::open`] takes it up again.

@@ -20,8 +20,10 @@ fn main() -> ExitCode {
             None => return usage(),
         },
         [text] => match number(text) {
-            Some(additions) => comparison::rounds(additions, comparison::all_cores()),
-            None => return usage(),
+            Some(additions) if additions > 0 => {
+                comparison::rounds(additions, comparison::all_cores())
+            }
+            _ => return usage(),
         },
         _ => return usage(),
     };

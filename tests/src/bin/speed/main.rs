@@ -17,10 +17,18 @@ const COMMAND: &str = "cargo run --release --offline --locked --manifest-path te
      --target-dir target/tests --bin speed";
 
 fn main() -> Result<(), Box<dyn Error>> {
-    if env::args().nth(1).as_deref() == Some("parts") {
-        parts::print(&cases::capsule(1_000), SPAN);
-        return Ok(());
+    let arguments: Vec<String> = env::args().skip(1).collect();
+    match arguments.iter().map(String::as_str).collect::<Vec<_>>()[..] {
+        [] => all(),
+        ["parts"] => {
+            parts::print(&cases::capsule(1_000), SPAN);
+            Ok(())
+        }
+        _ => Err("give no argument, or `parts`".into()),
     }
+}
+
+fn all() -> Result<(), Box<dyn Error>> {
     println!("{COMMAND}");
     println!("{}, {}", processor()?, env!("RUSTC_VERSION"));
     print_head();
