@@ -52,7 +52,7 @@ sound d c first h finite =
       finite = finite;
       vertices = vertices-counted d c shape;
       claims = permitted-claims (topologyOf d N) (shape-permitted d N shape) .1 first;
-      capsule = capsule-counted d N shape;
+      capsule = λ n L r e. omega (arith, capsule-counted d N shape n L r e);
     }
 
 -- its kind is one of the five

@@ -20,7 +20,7 @@ use Rattle.set_table.proofs.Fitting.{fitting}
 use Rattle.shared_set.specs.Bodies.{Body, vertexCountIn, triangleCountIn}
 use Rattle.shared_set.specs.Additions.{finiteTests, placeTests, additionTests}
 use Rattle.shared_set.specs.Set.{settled, settledAs, added}
-use Rattle.ledger.specs.Ledger.{Ledger, then, bodyCount, vertexSum, totalsOf, Addition, aloneOf, replyTo, entered, entryBehind, entriesOf, setTable, setVertices, setTriangles, stainedBy}
+use Rattle.ledger.specs.Ledger.{Ledger, then, bodyCount, vertexSum, triangleSum, totalsOf, Addition, aloneOf, replyTo, entered, entryBehind, entriesOf, setTable, setVertices, trianglesBehind, setTriangles, stainedBy}
 use Rattle.ledger.specs.Calls.{addition}
 use Rattle.ledger.specs.Demand3.{EachSound}
 use Rattle.ledger.proofs.Bodies.{both-permitted, sound}
@@ -40,6 +40,10 @@ stain false at set new held h = refl
 length-stain : (is : Bool) (at : ℕ) (new held : List Float) → length (cond is (overwrite at new held) held) ≡ length held
 length-stain true at new held = length-overwrite at new held
 length-stain false at new held = refl
+
+-- the indices of the body that goes to the end have its first vertex added
+shifted : (L : Ledger) (b : Body) → trianglesBehind L b ≡ flatten (shift (vertexSum L) (b .triangles))
+shifted L b = ap (λ (first : ℕ). flatten (shift first (b .triangles))) (omega arith)
 
 module _ (s₀ : Buffers) where
   -- the ledger's set at the front of the buffers, of which the vertices held `held`
@@ -77,7 +81,9 @@ module _ (s₀ : Buffers) where
   settle L a held (accepted u) each =
       let b = aloneOf a in
       let v = behind (setVertices L) (b .vertices) held (sym (length-set-vertices L each)) in
-      let t = behind (setTriangles L) (flatten (shift (vertexSum L) (b .triangles))) (s₀ .triangles) (sym (length-set-triangles L)) in
+      let t =
+      ap (λ (ts : List ℕ). overwrite (3 * triangleSum L) ts (overwrite 0 (setTriangles L) (s₀ .triangles))) (sym (shifted L b))
+      ∙ behind (setTriangles L) (trianglesBehind L b) (s₀ .triangles) (sym (length-set-triangles L)) in
       (λ j. buffers (table-next L b j) (v j) (t j))
   settle L a held (refused number) each =
       let nothing = zeros (length (aloneOf a .vertices)) in

@@ -3,9 +3,9 @@ use mathlib.Core.Path.{_≡_, refl}
 use Prim.Native.Nat.{_*_}
 use native.Mathlib.Omega.{arith}
 use lib.ListN.{length, length-append}
-use Rattle.surface.specs.Triangles.{flatten, shift}
 use Rattle.set_table.specs.Room.{entryWords, tableWords}
-use Rattle.ledger.specs.Ledger.{Ledger, empty, then, bodyCount, vertexSum, triangleSum, entryBehind, entriesOf, setTable, setVertices, setTriangles}
+use Rattle.shared_set.specs.Bodies.{Body, triangleCountIn}
+use Rattle.ledger.specs.Ledger.{Ledger, empty, then, bodyCount, vertexSum, triangleSum, entryBehind, entriesOf, setTable, setVertices, trianglesBehind, setTriangles}
 use Rattle.ledger.specs.Demand3.{EachSound}
 use Rattle.ledger.proofs.Bodies.{length-shifted}
 
@@ -21,8 +21,11 @@ length-set-vertices empty h = refl
 length-set-vertices (then L b) h =
     omega (arith, length-set-vertices L (h .0), length-append (setVertices L) (b .vertices), h .1 .whole)
 
+-- whatever is added to the indices
+length-triangles : (L : Ledger) (b : Body) → length (trianglesBehind L b) ≡ 3 * triangleCountIn b
+length-triangles L b = length-shifted _ (b .triangles)
+
 pub length-set-triangles : (L : Ledger) → length (setTriangles L) ≡ 3 * triangleSum L
 length-set-triangles empty = refl
 length-set-triangles (then L b) =
-    let ts = flatten (shift (vertexSum L) (b .triangles)) in
-    omega (arith, length-set-triangles L, length-append (setTriangles L) ts, length-shifted (vertexSum L) (b .triangles))
+    omega (arith, length-set-triangles L, length-append (setTriangles L) (trianglesBehind L b), length-triangles L b)

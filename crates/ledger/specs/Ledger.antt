@@ -81,10 +81,14 @@ abbrev pub setVertices : Ledger → List Float
 setVertices empty = []
 setVertices (then L b) = setVertices L ++ b .vertices
 
--- "all their triangles in order, each index with its body's first vertex added"
+-- "each index with its body's first vertex added": the triangles of a body that goes to the end
+abbrev pub trianglesBehind : Ledger → Body → List ℕ
+trianglesBehind L b = flatten (shift (vertexSum L) (b .triangles))
+
+-- "all their triangles in order"
 abbrev pub setTriangles : Ledger → List ℕ
 setTriangles empty = []
-setTriangles (then L b) = setTriangles L ++ flatten (shift (vertexSum L) (b .triangles))
+setTriangles (then L b) = setTriangles L ++ trianglesBehind L b
 
 -- What was in the vertex buffer when the list began, "with +0 in the vertex stretch of each 23": the stretch that the vertices would have
 -- had is behind the ledger's.
