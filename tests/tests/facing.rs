@@ -280,16 +280,19 @@ fn bent_tubes_and_capsules() {
     assert!(least > 0.9 && most < 1.0 + ROUNDING);
 }
 
-/// A circle in any plane that waves a little out of it, of this many vertices.
+/// A circle in any plane that waves a little out of it, of this many vertices. The frame that is carried round a wave
+/// comes back turned, and the last piece of a torus is twisted by so much.
 fn loop_of(generator: &mut Generator, vertices: u32, radius: f64, wave: f64) -> Vec<Xyz> {
     let axis = direction(generator);
     let right = unit(cross(axis, direction(generator)));
     let forward = cross(axis, right);
     let middle = direction(generator).map(|x| 3.0 * radius * x);
     let vertex = |i: u32| {
-        let (sin, cos) = (std::f64::consts::TAU * f64::from(i) / f64::from(vertices)).sin_cos();
+        let angle = std::f64::consts::TAU * f64::from(i) / f64::from(vertices);
+        let (sin, cos) = angle.sin_cos();
         let on_circle = plus(plus(middle, right, radius * cos), forward, radius * sin);
-        plus(on_circle, axis, wave * radius * sin * cos)
+        let lift = sin * cos + 0.5 * (3.0 * angle).cos();
+        plus(on_circle, axis, wave * radius * lift)
     };
     (0..vertices).map(vertex).collect()
 }
