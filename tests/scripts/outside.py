@@ -18,7 +18,7 @@ def output(*command):
 
 
 def admesh(path):
-    """The numbers that admesh prints, by their titles; of two columns the first, the file as it was."""
+    """The numbers that admesh prints, by their titles; of two columns the file as it was."""
     found = re.findall(r"([A-Z][a-z0-9 ]*[a-z])\s*:\s+(-?[0-9.]+)", output("admesh", path))
     return {title: float(number) for title, number in found}
 
@@ -31,14 +31,14 @@ def assimp_objects(path):
 
 
 def assimp_triangles(path):
-    """The triangles as assimp reads them, all meshes in their order, by way of its own binary PLY."""
+    """The triangles as assimp reads them, mesh after mesh, by way of its own binary PLY."""
     with tempfile.TemporaryDirectory() as folder:
         copy = Path(folder) / "copy.ply"
         output("assimp", "export", path, copy, "-fplyb", "-r")
         header, data = copy.read_bytes().split(b"end_header\n", 1)
     vertices, faces = (int(n) for n in re.findall(rb"element (?:vertex|face) (\d+)", header))
-    # A face has 13 bytes. A vertex begins with its place; its colour takes more bytes than the header
-    # says (assimp 5.2), so the length of the whole tells how many a vertex has.
+    # A face has 13 bytes. A vertex begins with its place; its colour takes more bytes than the
+    # header says (assimp 5.2), so the length of the whole tells how many a vertex has.
     faces_at = len(data) - 13 * faces
     step = faces_at // vertices
     points = [struct.unpack_from("<3f", data, step * place) for place in range(vertices)]

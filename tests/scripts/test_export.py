@@ -1,4 +1,4 @@
-"""docs/export.py: what it writes, read back by the readers beside this file, by assimp and by admesh."""
+"""docs/export.py: what it writes, read back by readers.py, by assimp and by admesh."""
 
 import operator
 import random

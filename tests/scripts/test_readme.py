@@ -1,4 +1,4 @@
-"""README.md: its text of bodies makes the set that is shown there, and the example prints what is shown."""
+"""README.md: its text of bodies makes the set that is shown, and so does the example."""
 
 import re
 import textwrap

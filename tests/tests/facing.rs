@@ -1,6 +1,7 @@
-//! Which way triangles face. Those of a capsule, a torus, a closed cylinder and a tube face outwards: no directed edge
-//! is used twice (demand 3), so that the triangles of a body all face outwards or all inwards, and the sign of its
-//! volume tells which. A ribbon has no outside; which side its triangles face is measured at each of them.
+//! Which way triangles face. Those of a capsule, a torus, a closed cylinder and a tube face
+//! outwards: no directed edge is used twice (demand 3), so that the triangles of a body all face
+//! outwards or all inwards, and the sign of its volume tells which. A ribbon has no outside; which
+//! side its triangles face is measured at each of them.
 
 use togbefulo_tests::{
     generator::Generator,
@@ -70,7 +71,8 @@ impl Mesh {
         self.triangles.iter().map(move |row| row.map(corner))
     }
 
-    /// Above 0 where the triangles of a closed body face outwards. Seen from the first vertex, to lose few digits.
+    /// Above 0 where the triangles of a closed body face outwards. Seen from the first vertex, to
+    /// lose few digits.
     fn volume(&self) -> f64 {
         let first = self.vertices[0];
         let parts = self.corners().map(|row| {
@@ -85,8 +87,9 @@ impl Mesh {
         self
     }
 
-    /// A tube with its two open ends closed, each by a fan round the end of the curve. The fans' edges are the reverse
-    /// of those that the tube leaves open, so that they face as the tube does.
+    /// A tube with its two open ends closed, each by a fan round the end of the curve. The fans'
+    /// edges are the reverse of those that the tube leaves open, so that they face as the tube
+    /// does.
     fn with_ends(mut self, divisions: u32, curve: &[Xyz]) -> Mesh {
         let edges = |row: &[u32; 3]| [(0, 1), (1, 2), (2, 0)].map(|(i, j)| [row[i], row[j]]);
         let mut edges: Vec<[u32; 2]> = self.triangles.iter().flat_map(edges).collect();
@@ -123,8 +126,8 @@ fn input(kind: u32, divisions: u32, steps: u32, radius: f64, curve: &[Xyz]) -> I
     Input { fields, curve }
 }
 
-/// The volume of the body whose cross sections at these heights are corners of a regular polygon at these distances
-/// from a straight axis: between two of them it is a stump of a pyramid.
+/// The volume of the body whose cross sections at these heights are corners of a regular polygon
+/// at these distances from a straight axis: between two of them it is a stump of a pyramid.
 fn stacked(divisions: u32, sections: &[(f64, f64)]) -> f64 {
     let turn = std::f64::consts::TAU / f64::from(divisions);
     let area = 0.5 * f64::from(divisions) * turn.sin();
@@ -175,8 +178,9 @@ const BODIES: usize = 3_000;
 /// Of a volume, for what the rounding to `f32` may change.
 const ROUNDING: f64 = 1e-4;
 
-/// Segments of one length that keep within 28 degrees of an axis. At a radius of a quarter of that length a body
-/// along them cannot cross itself: segments that are no neighbours stay more than twice the radius apart.
+/// Segments of one length that keep within 28 degrees of an axis. At a radius of a quarter of that
+/// length a body along them cannot cross itself: segments that are no neighbours stay more than
+/// twice the radius apart.
 fn gentle(generator: &mut Generator, vertices: u32, segment: f64) -> Vec<Xyz> {
     let axis = direction(generator);
     let mut at = direction(generator).map(|x| 10.0 * segment * x);
@@ -252,7 +256,8 @@ fn closed_cylinders() {
     println!("{BODIES} closed cylinders have the volumes of their prisms");
 }
 
-/// Bends take a little from a straight body's volume: a ring between two segments keeps its radius.
+/// Bends take a little from a straight body's volume: a ring between two segments keeps its
+/// radius.
 #[test]
 fn bent_tubes_and_capsules() {
     let mut generator = Generator::new(62);
@@ -280,8 +285,8 @@ fn bent_tubes_and_capsules() {
     assert!(least > 0.9 && most < 1.0 + ROUNDING);
 }
 
-/// A circle in any plane that waves a little out of it, of this many vertices. The frame that is carried round a wave
-/// comes back turned, and the last piece of a torus is twisted by so much.
+/// A circle in any plane that waves a little out of it, of this many vertices. The frame that is
+/// carried round a wave comes back turned, and the last piece of a torus is twisted by so much.
 fn loop_of(generator: &mut Generator, vertices: u32, radius: f64, wave: f64) -> Vec<Xyz> {
     let axis = direction(generator);
     let right = unit(cross(axis, direction(generator)));
@@ -324,9 +329,9 @@ fn tori() {
     assert!(near > 300);
 }
 
-/// Standing on the side that a triangle of a ribbon faces and looking along the curve, one has the other edge to the
-/// right. On the first segment that is the side of -y, or of -x where the segment is within about 14.5 degrees of the
-/// axis y.
+/// Standing on the side that a triangle of a ribbon faces and looking along the curve, one has the
+/// other edge to the right. On the first segment that is the side of -y, or of -x where the
+/// segment is within about 14.5 degrees of the axis y.
 #[test]
 fn ribbons() {
     let mut generator = Generator::new(64);

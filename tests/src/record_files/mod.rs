@@ -44,8 +44,9 @@ pub fn file(name: &str) -> Option<Vec<u8>> {
     known.map(|(_, file)| file())
 }
 
-/// Where the file of this name is stored: its records, and what `sweep` makes of them. The example's set is among
-/// the examples; its records are made there from a text by docs/records.py, and compared with the stored ones.
+/// Where the file of this name is stored: its records, and what `sweep` makes of them. The
+/// example's set is among the examples. Its records are made there from a text by docs/records.py,
+/// and tests/scripts compares them with the stored ones.
 pub fn stored(name: &str) -> [PathBuf; 2] {
     let tests = Path::new(env!("CARGO_MANIFEST_DIR"));
     let set = match name {
