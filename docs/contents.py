@@ -1,13 +1,14 @@
 #!/usr/bin/env python3
-"""Prints what a file of `sweep` holds: its counts, and a line for each body of its table of contents.
+"""Prints what a set's file holds: its counts, and a line for each body of its table of contents.
 
     python3 docs/contents.py examples/harness.set
-    target/bin/sweep < examples/harness.records | python3 docs/contents.py
+    target/bin/sweep < tests/records/sample.records | python3 docs/contents.py
 """
 
 import struct
 import sys
 from collections import namedtuple
+from pathlib import Path
 
 KINDS = {1: "ribbon", 2: "tube", 3: "capsule", 4: "torus", 5: "closed cylinder"}
 
@@ -19,10 +20,10 @@ Set = namedtuple("Set", "bodies vertices triangles")
 
 def read(name=None):
     """The set in the named file, or on standard input."""
-    data = open(name, "rb").read() if name else sys.stdin.buffer.read()
+    data = Path(name).read_bytes() if name else sys.stdin.buffer.read()
     edition, count, vertices, triangles = struct.unpack("<4I", data[:16].ljust(16, b"\0"))
     if edition != 1 or len(data) != 4 * (4 + 6 * count + 3 * vertices + 3 * triangles):
-        sys.exit("this is no file of `sweep`")
+        sys.exit("this is not the file of a set")
     vertices_at = 16 + 24 * count
     triangles_at = vertices_at + 12 * vertices
     return Set(

@@ -1,7 +1,8 @@
 #!/usr/bin/env python3
-"""Draws a file of `sweep` as an SVG picture: each body in a colour of its own, seen from above and one side.
+"""Draws a set's file as an SVG picture: each body in its own colour, seen from above and one side.
 
     python3 docs/picture.py examples/harness.set > docs/harness.svg
+    target/bin/sweep < tests/records/sample.records | python3 docs/picture.py > sample.svg
 """
 
 import math

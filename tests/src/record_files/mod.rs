@@ -44,14 +44,19 @@ pub fn file(name: &str) -> Option<Vec<u8>> {
     known.map(|(_, file)| file())
 }
 
-/// Where the file of this name is stored: its records, and what `sweep` makes of them.
+/// Where the file of this name is stored: its records, and what `sweep` makes of them. The
+/// example's set is among the examples. Its records are made there from a text by docs/records.py,
+/// and tests/scripts compares them with the stored ones.
 pub fn stored(name: &str) -> [PathBuf; 2] {
     let tests = Path::new(env!("CARGO_MANIFEST_DIR"));
-    let folder = match name {
+    let set = match name {
         EXAMPLE => tests.join("../examples"),
         _ => tests.join("records"),
     };
-    ["records", "set"].map(|ending| folder.join(name).with_extension(ending))
+    [
+        tests.join("records").join(name).with_extension("records"),
+        set.join(name).with_extension("set"),
+    ]
 }
 
 /// A record of this kind; what a kind lacks is 0.
