@@ -13,13 +13,13 @@ use Rattle.surface.specs.declared.grid.Chain.the-variants.{Open, Closed}
 use Rattle.surface.specs.declared.quads.Split as Split
 use Rattle.surface.specs.declared.quads.Split.the-variants as Splits
 use Rattle.surface.specs.declared.grid.Chain.{Chain}
-use Rattle.edges.specs.Edges.{edges, unmatched, NoneTwice, Within, leastSteps, ends}
+use Rattle.edges.specs.Edges.{Edge, edges, unmatched, NoneTwice, Within, leastSteps, ends}
 use Rattle.edges.proofs.GridList.{grid-within, grid-once, grid-unmatched}
 use Rattle.edges.proofs.Capped.{capped, capped-within, capped-once, capped-matched}
 use Rattle.edges.proofs.Matching.{matched-of, of-matched}
 use Rattle.kinds.specs.Lists.{next, ring, ribbonQuad, tubeQuad, torusQuad, layerQuad, bottomTriangles, layers, topTriangles, closedTriangles, torusTriangles, tubeTriangles, ribbonTriangles}
 use Rattle.kinds.specs.Kinds.{permitted, vertexCount, triangleCount, trianglesOf, layersOf}
-use Rattle.kinds.specs.Claims.{IsClosed, openEdges, Enough, Claims}
+use Rattle.kinds.specs.Claims.{Reverses, Enough, Claims}
 use Rattle.kinds.specs.declared.topology.Topology.{Topology}
 use Rattle.kinds.specs.declared.topology.Topology.the-variants.{Ribbon, Tube, Capsule, Torus, ClosedCylinder}
 use Rattle.kinds.proofs.AsSurface.{ribbon-list, tube-list, torus-list, closed-list}
@@ -86,12 +86,20 @@ closed-length n S =
 
 -- ---- the theorem
 
-closed-kinds : (t : Topology) → IsClosed t → openEdges t ≡ 0
-closed-kinds (Ribbon k) c = absurd c
-closed-kinds (Tube k) c = absurd c
-closed-kinds (Capsule k) c = refl
-closed-kinds (Torus k) c = refl
-closed-kinds (ClosedCylinder k) c = refl
+-- how many edges are unmatched, for every kind alike
+abbrev openEdges : Topology → ℕ
+openEdges (Ribbon k) = 2 * k .segments + 2
+openEdges (Tube k) = 2 * k .divisions
+openEdges (Capsule k) = 0
+openEdges (Torus k) = 0
+openEdges (ClosedCylinder k) = 0
+
+reversed : (t : Topology) (es : List Edge) → unmatched es ≡ openEdges t → Reverses t es
+reversed (Ribbon k) es e = e
+reversed (Tube k) es e = e
+reversed (Capsule k) es e = matched-of es e
+reversed (Torus k) es e = matched-of es e
+reversed (ClosedCylinder k) es e = matched-of es e
 
 listed : (t : Topology) → Enough t → (first : ℕ) → Listed first (vertexCount t) (openEdges t) (shift first (trianglesOf t))
 listed (Ribbon k) h first = ribbon-listed first (k .segments) h
@@ -114,8 +122,7 @@ claims t h first =
     record {
       inside = l .inside;
       once = l .once;
-      closed = λ c. matched-of (edges (shift first (trianglesOf t))) (l .open-edges ∙ closed-kinds t c);
-      open-edges = l .open-edges;
+      reverses = reversed t (edges (shift first (trianglesOf t))) (l .open-edges);
       triangles = shift-length first (trianglesOf t) ∙ counted t;
     }
 
