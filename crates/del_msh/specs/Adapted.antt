@@ -3,7 +3,6 @@
 use mathlib.Core.List.{List, [], _∷_}
 use Prim.Native.Nat.{ℕ, _+_, _-_, _*_, _≤_, _<_}
 use lib.Ieee.{Float}
-use lib.ListN.{length}
 use Rattle.surface.specs.Triangles.{Triangle}
 use Rattle.vec3.specs.declared.points.Point.{Point}
 use Rattle.kinds.specs.Kinds.{trianglesOf}
@@ -12,7 +11,7 @@ use Rattle.descriptions.specs.Descriptions.{topologyOf}
 use Rattle.descriptions.specs.declared.description.Description.{Description}
 use Rattle.descriptions.specs.declared.description.Description.the-variants.{Ribbon, Tube, Capsule, Torus, ClosedCylinder}
 use Rattle.bodies.specs.Bodies.{verticesOf}
-use Rattle.del_msh.specs.Vectors.{vec}
+use Rattle.del_msh.specs.Vectors.{vec, len}
 use Rattle.del_msh.specs.Arrays.{Outside, minus, xyz, zeros, zeroTriangle}
 use Rattle.del_msh.specs.Trimesh3Primitive.{TriMesh, cylinder-open-end-number-of-tri-and-vtx, cylinder-open-end-set-topology, cylinder-closed-end-yup}
 use Rattle.del_msh.specs.Polyline3 as polyline3
@@ -34,10 +33,10 @@ module _ (outside : Outside) where
   -- "The source fills slices here, whose lengths its caller works out."
   abbrev pub tube : List Point → ℕ → Float → TriMesh
   tube curve divisions radius =
-      let counts = cylinder-open-end-number-of-tri-and-vtx divisions (minus outside (length curve) 1) in
+      let counts = cylinder-open-end-number-of-tri-and-vtx divisions (minus outside (len curve) 1) in
       let tri2vtx = vec zeroTriangle (counts .0) in
       let vtx2xyz = vec zeros (counts .1) in
-      let tri2vtx = cylinder-open-end-set-topology outside tri2vtx (length curve) in
+      let tri2vtx = cylinder-open-end-set-topology outside tri2vtx (len curve) in
       let vtx2xyz = polyline3.set-vtx2xyz-for-generalized-cylinder-open-end outside vtx2xyz curve radius in
       (tri2vtx, vtx2xyz)
 

@@ -37,7 +37,7 @@ pub record Outside : Type 0 where
 abbrev pub read : Outside → List Point → ℕ → Point
 read outside points i = getD points i (outside .point)
 
--- `a - b`, `a / b` and `a % b`
+-- `a - b`, `a / b` and `a % b` on `usize`; the transcribed functions write them -?, /? and %?
 abbrev pub minus : Outside → ℕ → ℕ → ℕ
 minus outside a b = cond (leb b a) (a - b) (outside .number)
 

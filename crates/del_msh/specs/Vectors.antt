@@ -11,6 +11,10 @@ module _ {ℓ} {A : Type ℓ} where
   abbrev pub vec : A → ℕ → List A
   vec x n = replicate n x
 
+  -- `xs.len()`
+  abbrev pub len : List A → ℕ
+  len xs = length xs
+
   -- `xs.push(x)`
   abbrev pub push : List A → A → List A
   push xs x = xs ++ (x ∷ [])
