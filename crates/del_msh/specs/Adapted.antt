@@ -1,5 +1,6 @@
--- A body as the functions of del-msh make it of a description and a curve: which of them each kind calls, and with what, as tests/src/adapted.rs
--- does. "Torus and ribbon there get the frames of `vtx2framex`" (document 01, 'Kept from the Rust, and written anew'). Definitions only.
+-- A body as the functions of del-msh make it of a description and a curve: which of them each
+-- kind calls, and with what, as tests/src/adapted.rs does. "Torus and ribbon there get the frames
+-- of `vtx2framex`" (document 01, 'Kept from the Rust, and written anew'). Definitions only.
 use mathlib.Core.List.{List, [], _∷_}
 use Prim.Native.Nat.{ℕ, _+_, _-_, _*_, _≤_, _<_}
 use lib.Ieee.{Float}
@@ -51,12 +52,14 @@ module _ (outside : Outside) where
   abbrev pub rustBody : Description → List Float → List Triangle × List Float
   rustBody d c = (body d c .0, floats (body d c .1))
 
--- The same of document 01: "the vertices and local triangles that this paper's definitions give its description and curve" ('The shared set')
+-- The same of document 01: "the vertices and local triangles that this paper's definitions give
+-- its description and curve" ('The shared set')
 abbrev pub paperBody : Description → List Float → List Triangle × List Float
 paperBody d c = (trianglesOf (topologyOf d (verticesIn c)), verticesOf d c)
 
--- What the Rust asks of its caller, of a curve of N vertices: the first segment, which it reads untested, `ndiv_circum > 2`, and
--- `ndiv_length >= 1`, which of a capsule's 2L + m − 2 layers says 3 ≤ 2L + m.
+-- What the Rust asks of its caller, of a curve of N vertices: the first segment, which it reads
+-- untested, `ndiv_circum > 2`, and `ndiv_length >= 1`, which of a capsule's 2L + m − 2 layers
+-- says 3 ≤ 2L + m.
 abbrev pub Asked : Description → ℕ → Type 0
 Asked (Ribbon width) N = 2 ≤ N
 Asked (Tube n r) N = 2 ≤ N

@@ -1,5 +1,6 @@
--- The frames along an open curve, tube, capsule and ribbon, after polyline3.rs of del-msh (see NOTICE): its functions, names, loops and order,
--- with - for _ in a name. Line numbers are the source's; tests/src/del_msh/polyline3.rs has the same text to be run. Definitions only.
+-- The frames along an open curve, tube, capsule and ribbon, after polyline3.rs of del-msh (see
+-- NOTICE): its functions, names, loops and order, with - for _ in a name. Line numbers are the
+-- source's; tests/src/del_msh/polyline3.rs has the same text to be run. Definitions only.
 use mathlib.Core.Bool.{true}
 use mathlib.Core.List.{List}
 use Prim.Native.Nat.{ℕ, _+_, _*_}

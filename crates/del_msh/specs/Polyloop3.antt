@@ -1,5 +1,6 @@
--- The frames along a closed curve, and the torus, after polyloop3.rs of del-msh (see NOTICE): its functions, names, loops and order, with - for
--- _ in a name. Line numbers are the source's; tests/src/del_msh/polyloop3.rs has the same text to be run. Definitions only.
+-- The frames along a closed curve, and the torus, after polyloop3.rs of del-msh (see NOTICE): its
+-- functions, names, loops and order, with - for _ in a name. Line numbers are the source's;
+-- tests/src/del_msh/polyloop3.rs has the same text to be run. Definitions only.
 use mathlib.Core.List.{List, []}
 use Prim.Native.Nat.{ℕ, _+_, _*_}
 use lib.Ieee.{Float}

@@ -1,6 +1,7 @@
--- The open cylinder's triangles and the closed cylinder, after trimesh3_primitive.rs of del-msh (see NOTICE): its functions, names, loops and
--- order, with - for _ in a name. Line numbers are the source's; tests/src/del_msh/trimesh3_primitive.rs has the same text to be run.
--- Definitions only.
+-- The open cylinder's triangles and the closed cylinder, after trimesh3_primitive.rs of del-msh
+-- (see NOTICE): its functions, names, loops and order, with - for _ in a name. Line numbers are
+-- the source's; tests/src/del_msh/trimesh3_primitive.rs has the same text to be run. Definitions
+-- only.
 use mathlib.Core.Bool.{Bool}
 use mathlib.Core.List.{List, []}
 use Prim.Native.Nat.{ℕ, _+_, _*_}

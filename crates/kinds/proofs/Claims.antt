@@ -33,7 +33,8 @@ shift-length : (first : ℕ) (ts : List Triangle) → length (shift first ts) �
 shift-length first [] = refl
 shift-length first (triangle a b c ∷ ts) = ap suc (shift-length first ts)
 
--- A list of triangles, by what is claimed of it: v vertices numbered from `first` on, no edge twice, u edges unmatched.
+-- A list of triangles, by what is claimed of it: v vertices numbered from `first` on, no edge
+-- twice, u edges unmatched.
 record Listed (first v u : ℕ) (ts : List Triangle) : Type 0 where
   inside : Within first (first + v) ts
   once : NoneTwice (edges ts)
@@ -141,7 +142,8 @@ enough (ClosedCylinder k) b = (b .0 .0, b .1 .0)
 pub permitted-claims : (t : Topology) → permitted t ≡ true → Claims t 0 (trianglesOf t) × ((first : ℕ) → Claims t first (shift first (trianglesOf t)))
 permitted-claims t p = let h = enough t (bounds t p) in (local-claims t h, claims t h)
 
--- "A capsule of n divisions and m segments has exactly 2n(2L + m - 1) triangles, L being its longitude divisions."
+-- "A capsule of n divisions and m segments has exactly 2n(2L + m - 1) triangles, L being its
+-- longitude divisions."
 pub capsule-triangles : (n L m : ℕ) → 3 ≤ 2 * L + m → length (trianglesOf (Capsule (record { divisions = n; longitudes = L; segments = m }))) ≡ 2 * n * (2 * L + m - 1)
 capsule-triangles n L m h =
     let e : 2 * L + m - 2 + 1 ≡ 2 * L + m - 1 = omega arith in

@@ -1,4 +1,5 @@
--- What demand 3 and document 01, 'Triangle lists', say of the edges and the triangles of every body. Definitions only.
+-- What demand 3 and document 01, 'Triangle lists', say of the edges and the triangles of every
+-- body. Definitions only.
 use mathlib.Core.Path.{_≡_}
 use mathlib.Core.List.{List}
 use Prim.Native.Nat.{ℕ, _+_, _*_, _≤_}
@@ -9,8 +10,9 @@ use Rattle.kinds.specs.Kinds.{vertexCount, triangleCount}
 use Rattle.kinds.specs.declared.topology.Topology.{Topology}
 use Rattle.kinds.specs.declared.topology.Topology.the-variants.{Ribbon, Tube, Capsule, Torus, ClosedCylinder}
 
--- "Every edge of a capsule, closed cylinder or torus has its reverse. A tube of n divisions has exactly 2n unmatched edges, a ribbon of m segments
--- exactly 2m + 2." Said of the edges es of the body's triangles.
+-- "Every edge of a capsule, closed cylinder or torus has its reverse. A tube of n divisions has
+-- exactly 2n unmatched edges, a ribbon of m segments exactly 2m + 2." Said of the edges es of the
+-- body's triangles.
 abbrev pub Reverses : Topology → List Edge → Type 0
 Reverses (Ribbon k) es = unmatched es ≡ 2 * k .segments + 2
 Reverses (Tube k) es = unmatched es ≡ 2 * k .divisions
