@@ -60,6 +60,10 @@
  *   vertices   x, y, z of each vertex, body after body: three floats a vertex
  *   triangles  three vertex numbers a triangle, counted from the set's first vertex, body after body
  *
+ * Seen from outside, the triangles of a tube, a capsule, a torus or a closed cylinder run
+ * counter-clockwise: by the right-hand rule they face outward. A ribbon's run counter-clockwise on
+ * the side from which, with the curve running upward, the band lies to the right of the curve.
+ *
  * togbefulo_clear comes first. togbefulo_counts says how many vertices and triangles a body has; one that fits exactly
  * is accepted. A table that was changed by hand is answered 1 where it has one of the faults listed for 1 below;
  * otherwise it is taken as it stands, since divisions and counts are not looked at. Whatever it says, no call reads or
@@ -170,7 +174,8 @@ uint32_t togbefulo_add(uint32_t kind, uint32_t divisions, uint32_t steps, bool c
                        uint32_t *triangles, size_t triangles_len);
 
 /* Counts the vertices and triangles of a body, from its description and the number of vertices (not of floats) of its
- * curve, `vertices`: counts[0] vertices, which take 3 * counts[0] floats, and counts[1] triangles, which take 3 * counts[1] words.
+ * curve, `vertices`: counts[0] vertices, which take 3 * counts[0] floats, and counts[1] triangles, which take
+ * 3 * counts[1] words.
  * Answers 0, 10, 20, 21 or 22, in this order, or 4294967295. Where it is not 0, `counts` is untouched. */
 uint32_t togbefulo_counts(uint32_t kind, uint32_t divisions, uint32_t steps, bool centred, float size, float length,
                           size_t vertices, uint32_t counts[TOGBEFULO_AT_LEAST 2]);
@@ -178,6 +183,8 @@ uint32_t togbefulo_counts(uint32_t kind, uint32_t divisions, uint32_t steps, boo
 /* Puts the word at this place of the set's file, counted from 0, into `word`. The file is words of 32 bits, written
  * with the low byte first: 1, the numbers of bodies, vertices and triangles, the table's entries, the bits of all
  * floats, all vertex numbers. togbefulo_file_words says how many they are.
+ * A NaN, which only a set made or changed by hand can hold, reads as 7FC00000 (hexadecimal),
+ * whatever its bits are.
  * Answers 0, 1 or 5. Where it is not 0, `word` is untouched. */
 uint32_t togbefulo_file_word(const uint32_t *table, size_t table_len,
                              const float *vertices, size_t vertices_len,

@@ -5,6 +5,10 @@
 //! [`write_vertices`](Description::write_vertices) and [`write_triangles`](Description::write_triangles) serve a body
 //! alone. Whatever is handed over, a call answers, and a [`Refusal`] says why not.
 //!
+//! Seen from outside, the triangles of a tube, a capsule, a torus or a closed cylinder run
+//! counter-clockwise: by the right-hand rule they face outward. A ribbon's run counter-clockwise on
+//! the side from which, with the curve running upward, the band lies to the right of the curve.
+//!
 //! The code that does the work is `libtogbefulo.a`, for x86-64 Linux; its functions stand in [`ffi`]. It is
 //! linked from `../target/staticlib`, where `rt staticlib togbefulo` leaves it, or from the folder that the environment
 //! variable `TOGBEFULO_LIB_DIR` names; a relative path begins at the folder of this crate.

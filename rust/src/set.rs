@@ -171,7 +171,8 @@ impl<'a> Set<'a> {
         answered.map(answer).collect()
     }
 
-    /// The word at this place of the set's file; [`Refusal::PastEnd`] at its end and past it.
+    /// The word at this place of the set's file; [`Refusal::PastEnd`] at its end and past it. A NaN,
+    /// which only a set made or changed by hand can hold, reads as 7FC00000 (hexadecimal).
     pub fn file_word(&self, place: usize) -> Result<u32, Refusal> {
         let mut word = [0];
         answer(ffi::file_word(

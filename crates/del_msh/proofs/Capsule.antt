@@ -1,4 +1,5 @@
--- The capsule of polyline3.rs is document 01's: of the closed cylinder that it begins with, only the triangles are left. Assumes nothing.
+-- The capsule of polyline3.rs is document 01's: of the closed cylinder that it begins with, only
+-- the triangles are left. Assumes nothing.
 use mathlib.Core.Path.{_≡_, refl, sym, ap, _∙_}
 use mathlib.Core.Bool.{true}
 use mathlib.Core.List.{List, [], _∷_, _++_, append-assoc}

@@ -31,9 +31,9 @@ half-is : over one (plus one one) ≡ ofBits binary32 0x3F00_0000
 unfolding add div ofBits
 half-is = refl
 
-low-is : (centred : Bool) (length : Float) → cond centred (times (neg length) (over one (plus one one))) zero ≡ lowOf centred length
+low-is : (centred : Bool) (l : Float) → cond centred (times (neg l) (over one (plus one one))) zero ≡ lowOf centred l
 unfolding lowOf
-low-is centred length = ap (λ (half : Float). cond centred (times (neg length) half) zero) half-is
+low-is centred l = ap (λ (half : Float). cond centred (times (neg l) half) zero) half-is
 
 -- a pole, rings, a pole
 closed-floats : (bottom : Point) (rings : List Point) (top : Point)

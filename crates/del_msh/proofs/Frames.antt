@@ -1,4 +1,5 @@
--- The loop of both `vtx2framex`: the first frame, and then each transported from the one before it. Assumes nothing.
+-- The loop of both `vtx2framex`: the first frame, and then each transported from the one before
+-- it. Assumes nothing.
 use mathlib.Core.Path.{_≡_, refl, sym, ap, _∙_}
 use mathlib.Core.List.{List, [], _∷_}
 use Prim.Native.Nat.{ℕ, zero, suc, _+_, _-_, _*_, _≤_, _<_}

@@ -1,4 +1,5 @@
--- The laws of the loops that build a list: what an assignment leaves, and the two laws of every loop that assigns or pushes blocks. Assumes nothing.
+-- The laws of the loops that build a list: what an assignment leaves, and the two laws of every
+-- loop that assigns or pushes blocks. Assumes nothing.
 use mathlib.Core.Path.{_≡_, refl, sym, ap, _∙_}
 use mathlib.Core.Bool.{cond}
 use mathlib.Core.List.{List, [], _∷_, _++_, append-nil, append-assoc}

@@ -54,7 +54,8 @@ pub last-assigned-by-three : (outside : Outside) (room q : ℕ) {v w : Point} (t
 last-assigned-by-three outside room q t h is long =
     point-assigned-by-three room (minus outside (length t) 1) q t (omega arith) (minus-is outside (length t) 1 q (omega arith)) is long
 
--- Two loops, one in the other, that assign k rings of n points from place `at` on; and that push them.
+-- Two loops, one in the other, that assign k rings of n points from place `at` on; and that push
+-- them.
 pub rings-assigned : (room k n at : ℕ) (vertex : ℕ → Direction → Point) (turn : ℕ → ℕ → List Point → List Point) (t₀ : List Point) → at + k * n ≤ room
     → ((g i : ℕ) → g < k → i < n → at + g * n + i < room → (t : List Point) → length t ≡ room
     → turn g i t ≡ overwrite (at + g * n + i) (vertex g (turnOf i n) ∷ []) t)

@@ -1,5 +1,6 @@
--- The bodies that the Rust functions kept by document 01 make, with its stand-ins under them, are document 01's: for every description and curve
--- of which the Rust's own asserts hold. Assumes nothing.
+-- The bodies that the Rust functions kept by document 01 make, with its stand-ins under them, are
+-- document 01's: for every description and curve of which the Rust's own asserts hold. Assumes
+-- nothing.
 use mathlib.Core.Path.{_≡_, refl}
 use mathlib.Core.List.{List}
 use Prim.Native.Nat.{ℕ, _+_, _-_}
@@ -26,8 +27,9 @@ use Rattle.del_msh.proofs.Tube.{tube-floats}
 use Rattle.del_msh.proofs.Capsule.{capsule-floats, capsule-triangles}
 use Rattle.del_msh.proofs.Torus.{torus-floats, torus-triangles}
 
--- An assignment outside its list would leave nothing of it, an assert that fails nothing of the list that it stands beside; it holds whatever a
--- read past an end, a difference below zero or a quotient by zero would give.
+-- An assignment outside its list would leave nothing of it, an assert that fails nothing of the
+-- list that it stands beside; it holds whatever a read past an end, a difference below zero or a
+-- quotient by zero would give.
 pub rust-body : (outside : Outside) (d : Description) (c : List Float) → Asked d (verticesIn c) → rustBody outside d c ≡ paperBody d c
 unfolding cylinder-open-end-number-of-tri-and-vtx
 rust-body outside (Ribbon width) c two =

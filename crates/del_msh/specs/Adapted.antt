@@ -1,9 +1,9 @@
--- A body as the functions of del-msh make it of a description and a curve: which of them each kind calls, and with what, as tests/src/adapted.rs
--- does. "Torus and ribbon there get the frames of `vtx2framex`" (document 01, 'Kept from the Rust, and written anew'). Definitions only.
+-- A body as the functions of del-msh make it of a description and a curve: which of them each
+-- kind calls, and with what, as tests/src/adapted.rs does. "Torus and ribbon there get the frames
+-- of `vtx2framex`" (document 01, 'Kept from the Rust, and written anew'). Definitions only.
 use mathlib.Core.List.{List, [], _∷_}
 use Prim.Native.Nat.{ℕ, _+_, _-_, _*_, _≤_, _<_}
 use lib.Ieee.{Float}
-use lib.ListN.{length}
 use Rattle.surface.specs.Triangles.{Triangle}
 use Rattle.vec3.specs.declared.points.Point.{Point}
 use Rattle.kinds.specs.Kinds.{trianglesOf}
@@ -12,7 +12,7 @@ use Rattle.descriptions.specs.Descriptions.{topologyOf}
 use Rattle.descriptions.specs.declared.description.Description.{Description}
 use Rattle.descriptions.specs.declared.description.Description.the-variants.{Ribbon, Tube, Capsule, Torus, ClosedCylinder}
 use Rattle.bodies.specs.Bodies.{verticesOf}
-use Rattle.del_msh.specs.Vectors.{vec}
+use Rattle.del_msh.specs.Vectors.{vec, len}
 use Rattle.del_msh.specs.Arrays.{Outside, minus, xyz, zeros, zeroTriangle}
 use Rattle.del_msh.specs.Trimesh3Primitive.{TriMesh, cylinder-open-end-number-of-tri-and-vtx, cylinder-open-end-set-topology, cylinder-closed-end-yup}
 use Rattle.del_msh.specs.Polyline3 as polyline3
@@ -34,10 +34,10 @@ module _ (outside : Outside) where
   -- "The source fills slices here, whose lengths its caller works out."
   abbrev pub tube : List Point → ℕ → Float → TriMesh
   tube curve divisions radius =
-      let counts = cylinder-open-end-number-of-tri-and-vtx divisions (minus outside (length curve) 1) in
+      let counts = cylinder-open-end-number-of-tri-and-vtx divisions (minus outside (len curve) 1) in
       let tri2vtx = vec zeroTriangle (counts .0) in
       let vtx2xyz = vec zeros (counts .1) in
-      let tri2vtx = cylinder-open-end-set-topology outside tri2vtx (length curve) in
+      let tri2vtx = cylinder-open-end-set-topology outside tri2vtx (len curve) in
       let vtx2xyz = polyline3.set-vtx2xyz-for-generalized-cylinder-open-end outside vtx2xyz curve radius in
       (tri2vtx, vtx2xyz)
 
@@ -52,12 +52,14 @@ module _ (outside : Outside) where
   abbrev pub rustBody : Description → List Float → List Triangle × List Float
   rustBody d c = (body d c .0, floats (body d c .1))
 
--- The same of document 01: "the vertices and local triangles that this paper's definitions give its description and curve" ('The shared set')
+-- The same of document 01: "the vertices and local triangles that this paper's definitions give
+-- its description and curve" ('The shared set')
 abbrev pub paperBody : Description → List Float → List Triangle × List Float
 paperBody d c = (trianglesOf (topologyOf d (verticesIn c)), verticesOf d c)
 
--- What the Rust asks of its caller, of a curve of N vertices: the first segment, which it reads untested, `ndiv_circum > 2`, and
--- `ndiv_length >= 1`, which of a capsule's 2L + m − 2 layers says 3 ≤ 2L + m.
+-- What the Rust asks of its caller, of a curve of N vertices: the first segment, which it reads
+-- untested, `ndiv_circum > 2`, and `ndiv_length >= 1`, which of a capsule's 2L + m − 2 layers
+-- says 3 ≤ 2L + m.
 abbrev pub Asked : Description → ℕ → Type 0
 Asked (Ribbon width) N = 2 ≤ N
 Asked (Tube n r) N = 2 ≤ N

@@ -1,5 +1,5 @@
--- The arrays that the vectors of the source hold, `[f32; 3]` for a point and `[usize; 3]` for a triangle, read and assigned; and the
--- operations on `usize` that may panic. Definitions only.
+-- The arrays that the vectors of the source hold, `[f32; 3]` for a point and `[usize; 3]` for a
+-- triangle, read and assigned; and the operations on `usize` that may panic. Definitions only.
 use mathlib.Core.Bool.{cond}
 use mathlib.Core.List.{List}
 use Prim.Native.Nat.{ℕ, _-_, _/_, _%_}
@@ -28,7 +28,8 @@ zeros = xyz zero zero zero
 abbrev pub zeroTriangle : Triangle
 zeroTriangle = triangle 0 0 0
 
--- What a read past a list's end would give, and a difference below zero or a quotient by zero. The Rust panics there; of these nothing is known.
+-- What a read past a list's end would give, and a difference below zero or a quotient by zero.
+-- The Rust panics there; of these nothing is known.
 pub record Outside : Type 0 where
   pub point : Point
   pub number : ℕ
@@ -37,7 +38,7 @@ pub record Outside : Type 0 where
 abbrev pub read : Outside → List Point → ℕ → Point
 read outside points i = getD points i (outside .point)
 
--- `a - b`, `a / b` and `a % b`
+-- `a - b`, `a / b` and `a % b` on `usize`; the transcribed functions write them -?, /? and %?
 abbrev pub minus : Outside → ℕ → ℕ → ℕ
 minus outside a b = cond (leb b a) (a - b) (outside .number)
 

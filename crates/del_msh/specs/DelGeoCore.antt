@@ -1,5 +1,6 @@
--- Document 01's stand-ins for what the source takes from `del_geo_core` and the float library ('Kept from the Rust, and written anew':
--- "one for an angle with its sine and cosine, one for a rotation with its application"; 'Arithmetic' has the first frame), in the order of
+-- Document 01's stand-ins for what the source takes from `del_geo_core` and the float library
+-- ('Kept from the Rust, and written anew': "one for an angle with its sine and cosine, one for a
+-- rotation with its application"; 'Arithmetic' has the first frame), in the order of
 -- tests/src/del_msh/del_geo_core.rs. Definitions only.
 use Prim.Native.Nat.{ℕ, _*_}
 use lib.Ieee.{Float}
@@ -8,8 +9,9 @@ use Rattle.vec3.specs.Turns.{turnOf}
 use Rattle.vec3.specs.Frames.{firstFrame, transported}
 use Rattle.vec3.specs.declared.points.Point.{Point}
 
--- An angle is k/n turn: `two * pi` of the source is `TAU`, a whole turn, and `pi * half` is `FRAC_PI_2`, a quarter. Products and quotients with
--- whole numbers stay exact, so that cosine and sine are those of turn(k, n) for the very k and n that the source's expression is made of.
+-- An angle is k/n turn: `two * pi` of the source is `TAU`, a whole turn, and `pi * half` is
+-- `FRAC_PI_2`, a quarter. Products and quotients with whole numbers stay exact, so that cosine
+-- and sine are those of turn(k, n) for the very k and n that the source's expression is made of.
 pub record Angle : Type 0 where
   pub k : ℕ
   pub n : ℕ
@@ -52,7 +54,8 @@ normalize = normalised
 abbrev pub basis-xy-from-basis-z : Point → Point
 basis-xy-from-basis-z vec-z = firstFrame vec-z .ex
 
--- mat3_col_major: a rotation from one direction to another, both "segment directions normalised", and its application, the transport step
+-- mat3_col_major: a rotation from one direction to another, both "segment directions normalised",
+-- and its application, the transport step
 pub record Rotation : Type 0 where
   pub from : Point
   pub to : Point

@@ -1,28 +1,29 @@
--- The frames along an open curve, tube, capsule and ribbon, after polyline3.rs of del-msh (see NOTICE): its functions, names, loops and order,
--- with - for _ in a name. Line numbers are the source's; tests/src/del_msh/polyline3.rs has the same text to be run. Definitions only.
+-- The frames along an open curve, tube, capsule and ribbon, after polyline3.rs of del-msh (see
+-- NOTICE): its functions, names, loops and order, with - for _ in a name. Line numbers are the
+-- source's; tests/src/del_msh/polyline3.rs has the same text to be run. Definitions only.
 use mathlib.Core.Bool.{true}
 use mathlib.Core.List.{List}
 use Prim.Native.Nat.{ℕ, _+_, _*_}
 use lib.Dec.{eqb, ltb}
 use lib.Ieee.{Float, neg}
-use lib.ListN.{length}
 use Rattle.surface.specs.Triangles.{triangle}
 use Rattle.vec3.specs.Points.{times}
 use Rattle.vec3.specs.declared.points.Point.{Point}
-use Rattle.del_msh.specs.Vectors.{vec, assert, assign, if, for, _‥_}
+use Rattle.del_msh.specs.Vectors.{vec, len, assert, assign, if, for, _‥_}
 use Rattle.del_msh.specs.Arrays.{Outside, read, minus, quotient, one, zeros, zeroTriangle, assignX, assignY, assignZ}
 use Rattle.del_msh.specs.DelGeoCore.{TAU, FRAC-PI-2, mul, div, cos, sin}
 use Rattle.del_msh.specs.DelGeoCore.{add, sub, scale, cross, normalize, basis-xy-from-basis-z, minimum-rotation-matrix, mult-vec}
 use Rattle.del_msh.specs.Trimesh3Primitive.{TriMesh, cylinder-closed-end-yup}
 
 module _ (outside : Outside) where
-  infixl 65 _-_
-  abbrev _-_ : ℕ → ℕ → ℕ
-  _-_ = minus outside
+  -- The Rust's `-` and `/` on `usize`, which may panic.
+  infixl 65 _-?_
+  abbrev _-?_ : ℕ → ℕ → ℕ
+  _-?_ = minus outside
 
-  infixl 70 _/_
-  abbrev _/_ : ℕ → ℕ → ℕ
-  _/_ = quotient outside
+  infixl 70 _/?_
+  abbrev _/?_ : ℕ → ℕ → ℕ
+  _/?_ = quotient outside
 
   infixl 90 _at_
   abbrev _at_ : List Point → ℕ → Point
@@ -31,7 +32,7 @@ module _ (outside : Outside) where
   -- line 27, "bi-normal vector on each vertex"
   unfoldable pub vtx2framex : List Point → List Point
   vtx2framex vtx2xyz =
-      let num-vtx = length vtx2xyz in
+      let num-vtx = len vtx2xyz in
       let vtx2bin = vec zeros num-vtx in
       -- first segment
       let p1 = vtx2xyz at 1 in
@@ -40,12 +41,12 @@ module _ (outside : Outside) where
       let x = basis-xy-from-basis-z v01 in
       let vtx2bin = assign vtx2bin 0 x in
       let vtx2bin = for (
-        1 ‥ num-vtx - 1,
+        1 ‥ num-vtx -? 1,
         λ i-seg1 vtx2bin.
-            let iv0 = i-seg1 - 1 in
+            let iv0 = i-seg1 -? 1 in
             let iv1 = i-seg1 in
             let iv2 = i-seg1 + 1 in
-            let i-seg0 = i-seg1 - 1 in
+            let i-seg0 = i-seg1 -? 1 in
             let p0 = vtx2xyz at iv0 in
             let p1 = vtx2xyz at iv1 in
             let p2 = vtx2xyz at iv2 in
@@ -55,12 +56,12 @@ module _ (outside : Outside) where
             let b12 = mult-vec rot (vtx2bin at i-seg0) in
             assign vtx2bin i-seg1 b12,
       ) vtx2bin in
-      assign vtx2bin (num-vtx - 1) (vtx2bin at (num-vtx - 2))
+      assign vtx2bin (num-vtx -? 1) (vtx2bin at (num-vtx -? 2))
 
   -- line 74
   unfoldable pub framez : List Point → ℕ → Point
   framez vtx2xyz i-vtx =
-      let num-vtx = length vtx2xyz in
+      let num-vtx = len vtx2xyz in
       let vtx2xyz = assert (ltb i-vtx num-vtx) vtx2xyz in
       if (
         eqb i-vtx 0,
@@ -68,11 +69,11 @@ module _ (outside : Outside) where
             let p2 = vtx2xyz at 1 in
             normalize (sub p2 p1),
         if (
-          eqb i-vtx (num-vtx - 1),
-          let p0 = vtx2xyz at (num-vtx - 2) in
-              let p1 = vtx2xyz at (num-vtx - 1) in
+          eqb i-vtx (num-vtx -? 1),
+          let p0 = vtx2xyz at (num-vtx -? 2) in
+              let p1 = vtx2xyz at (num-vtx -? 1) in
               normalize (sub p1 p0),
-          let p0 = vtx2xyz at (i-vtx - 1) in
+          let p0 = vtx2xyz at (i-vtx -? 1) in
               let p1 = vtx2xyz at i-vtx in
               let p2 = vtx2xyz at (i-vtx + 1) in
               let u01 = normalize (sub p1 p0) in
@@ -84,8 +85,8 @@ module _ (outside : Outside) where
   -- line 99
   unfoldable pub vtx2framey : List Point → List Point → List Point
   vtx2framey vtx2xyz vtx2framex =
-      let num-vtx = length vtx2xyz in
-      let vtx2framex = assert (eqb (length vtx2framex) num-vtx) vtx2framex in
+      let num-vtx = len vtx2xyz in
+      let vtx2framex = assert (eqb (len vtx2framex) num-vtx) vtx2framex in
       let vtx2framey = vec zeros num-vtx in
       for (
         0 ‥ num-vtx,
@@ -98,9 +99,9 @@ module _ (outside : Outside) where
   -- line 143
   unfoldable pub set-vtx2xyz-for-generalized-cylinder-open-end : List Point → List Point → Float → List Point
   set-vtx2xyz-for-generalized-cylinder-open-end vtx2xyz vtxl2xyz rad =
-      let num-vtxl = length vtxl2xyz in
-      let num-vtx = length vtx2xyz in
-      let ndiv-circum = num-vtx / num-vtxl in
+      let num-vtxl = len vtxl2xyz in
+      let num-vtx = len vtx2xyz in
+      let ndiv-circum = num-vtx /? num-vtxl in
       let vtxl2framex = vtx2framex vtxl2xyz in
       let vtxl2framey = vtx2framey vtxl2xyz vtxl2framex in
       for (
@@ -124,14 +125,14 @@ module _ (outside : Outside) where
   unfoldable pub to-trimesh3-capsule : List Point → ℕ → ℕ → Float → TriMesh
   to-trimesh3-capsule vtxl2xyz ndiv-circum ndiv-longtitude r =
       let vtxl2xyz = assert (ltb 2 ndiv-circum) vtxl2xyz in
-      let num-vtxl = length vtxl2xyz in
+      let num-vtxl = len vtxl2xyz in
       let vtxl2framex = vtx2framex vtxl2xyz in
       let vtxl2framey = vtx2framey vtxl2xyz vtxl2framex in
-      let ndiv-length = num-vtxl - 1 in
-      let tri2vtx-vtx2xyz = cylinder-closed-end-yup outside one one ndiv-circum (2 * ndiv-longtitude + ndiv-length - 2) true in
+      let ndiv-length = num-vtxl -? 1 in
+      let tri2vtx-vtx2xyz = cylinder-closed-end-yup outside one one ndiv-circum (2 * ndiv-longtitude + ndiv-length -? 2) true in
       let tri2vtx = tri2vtx-vtx2xyz .0 in
       let vtx2xyz = tri2vtx-vtx2xyz .1 in
-      let vtx2xyz = assert (eqb (length vtx2xyz) ((2 * ndiv-longtitude + ndiv-length - 1) * ndiv-circum + 2)) vtx2xyz in
+      let vtx2xyz = assert (eqb (len vtx2xyz) ((2 * ndiv-longtitude + ndiv-length -? 1) * ndiv-circum + 2)) vtx2xyz in
       -- south pole
       let p0 = vtxl2xyz at 0 in
       let ez = framez vtxl2xyz 0 in
@@ -146,7 +147,7 @@ module _ (outside : Outside) where
             let ex = vtxl2framex at 0 in
             let ey = vtxl2framey at 0 in
             let ez = framez vtxl2xyz 0 in
-            let t0 = div (mul FRAC-PI-2 (ndiv-longtitude - 1 - ir)) ndiv-longtitude in
+            let t0 = div (mul FRAC-PI-2 (ndiv-longtitude -? 1 -? ir)) ndiv-longtitude in
             let c0 = times r (cos t0) in
             for (
               0 ‥ ndiv-circum,
@@ -162,7 +163,7 @@ module _ (outside : Outside) where
             ) vtx2xyz,
       ) vtx2xyz in
       let vtx2xyz = for (
-        0 ‥ ndiv-length - 1,
+        0 ‥ ndiv-length -? 1,
         λ il vtx2xyz.
             let p0 = vtxl2xyz at (il + 1) in
             let ex = vtxl2framex at (il + 1) in
@@ -182,10 +183,10 @@ module _ (outside : Outside) where
       let vtx2xyz = for (
         0 ‥ ndiv-longtitude,
         λ ir vtx2xyz.
-            let p0 = vtxl2xyz at (num-vtxl - 1) in
-            let ex = vtxl2framex at (num-vtxl - 1) in
-            let ey = vtxl2framey at (num-vtxl - 1) in
-            let ez = framez vtxl2xyz (num-vtxl - 1) in
+            let p0 = vtxl2xyz at (num-vtxl -? 1) in
+            let ex = vtxl2framex at (num-vtxl -? 1) in
+            let ey = vtxl2framey at (num-vtxl -? 1) in
+            let ez = framez vtxl2xyz (num-vtxl -? 1) in
             let t0 = div (mul FRAC-PI-2 ir) ndiv-longtitude in
             let c0 = times r (cos t0) in
             for (
@@ -196,25 +197,25 @@ module _ (outside : Outside) where
                   let ay = scale ey (times c0 (cos theta)) in
                   let ax = scale ex (times c0 (sin theta)) in
                   let q = add (add (add p0 az) ax) ay in
-                  let vtx2xyz = assignX vtx2xyz (1 + (ir + ndiv-length + ndiv-longtitude - 1) * ndiv-circum + ic) (q .x) in
-                  let vtx2xyz = assignY vtx2xyz (1 + (ir + ndiv-length + ndiv-longtitude - 1) * ndiv-circum + ic) (q .y) in
-                  assignZ vtx2xyz (1 + (ir + ndiv-length + ndiv-longtitude - 1) * ndiv-circum + ic) (q .z),
+                  let vtx2xyz = assignX vtx2xyz (1 + (ir + ndiv-length + ndiv-longtitude -? 1) * ndiv-circum + ic) (q .x) in
+                  let vtx2xyz = assignY vtx2xyz (1 + (ir + ndiv-length + ndiv-longtitude -? 1) * ndiv-circum + ic) (q .y) in
+                  assignZ vtx2xyz (1 + (ir + ndiv-length + ndiv-longtitude -? 1) * ndiv-circum + ic) (q .z),
             ) vtx2xyz,
       ) vtx2xyz in
       -- North Pole
-      let p0 = vtxl2xyz at (num-vtxl - 1) in
-      let ez = framez vtxl2xyz (num-vtxl - 1) in
+      let p0 = vtxl2xyz at (num-vtxl -? 1) in
+      let ez = framez vtxl2xyz (num-vtxl -? 1) in
       let q = add p0 (scale ez r) in
-      let np = length vtx2xyz in
-      let vtx2xyz = assignX vtx2xyz (np - 1) (q .x) in
-      let vtx2xyz = assignY vtx2xyz (np - 1) (q .y) in
-      let vtx2xyz = assignZ vtx2xyz (np - 1) (q .z) in
+      let np = len vtx2xyz in
+      let vtx2xyz = assignX vtx2xyz (np -? 1) (q .x) in
+      let vtx2xyz = assignY vtx2xyz (np -? 1) (q .y) in
+      let vtx2xyz = assignZ vtx2xyz (np -? 1) (q .z) in
       (tri2vtx, vtx2xyz)
 
   -- line 332
   unfoldable pub to-trimesh3-ribbon : List Point → List Point → Float → TriMesh
   to-trimesh3-ribbon vtxl2xyz vtxl2framex width =
-      let num-vtxl = length vtxl2xyz in
+      let num-vtxl = len vtxl2xyz in
       let vtx2xyz = vec zeros (num-vtxl * 2) in
       let vtx2xyz = for (
         0 ‥ num-vtxl,
@@ -222,10 +223,10 @@ module _ (outside : Outside) where
             let vtx2xyz = assign vtx2xyz (i-vtxl * 2) (vtxl2xyz at i-vtxl) in
             assign vtx2xyz (i-vtxl * 2 + 1) (add (vtxl2xyz at i-vtxl) (scale (vtxl2framex at i-vtxl) width)),
       ) vtx2xyz in
-      let num-tri = (num-vtxl - 1) * 2 in
+      let num-tri = (num-vtxl -? 1) * 2 in
       let tri2vtx = vec zeroTriangle num-tri in
       let tri2vtx = for (
-        0 ‥ num-vtxl - 1,
+        0 ‥ num-vtxl -? 1,
         λ i-vtxl tri2vtx.
             let tri2vtx = assign tri2vtx (i-vtxl * 2) (triangle (i-vtxl * 2) (i-vtxl * 2 + 1) (i-vtxl * 2 + 2)) in
             assign tri2vtx (i-vtxl * 2 + 1) (triangle (i-vtxl * 2 + 1) (i-vtxl * 2 + 3) (i-vtxl * 2 + 2)),

@@ -1,25 +1,26 @@
--- The frames along a closed curve, and the torus, after polyloop3.rs of del-msh (see NOTICE): its functions, names, loops and order, with - for
--- _ in a name. Line numbers are the source's; tests/src/del_msh/polyloop3.rs has the same text to be run. Definitions only.
+-- The frames along a closed curve, and the torus, after polyloop3.rs of del-msh (see NOTICE): its
+-- functions, names, loops and order, with - for _ in a name. Line numbers are the source's;
+-- tests/src/del_msh/polyloop3.rs has the same text to be run. Definitions only.
 use mathlib.Core.List.{List, []}
 use Prim.Native.Nat.{ℕ, _+_, _*_}
 use lib.Ieee.{Float}
-use lib.ListN.{length}
 use Rattle.surface.specs.Triangles.{triangle}
 use Rattle.vec3.specs.declared.points.Point.{Point}
-use Rattle.del_msh.specs.Vectors.{vec, push, assign, for, _‥_}
+use Rattle.del_msh.specs.Vectors.{vec, len, push, assign, for, _‥_}
 use Rattle.del_msh.specs.Arrays.{Outside, read, minus, remainder, zeros}
 use Rattle.del_msh.specs.DelGeoCore.{TAU, mul, div, cos, sin}
 use Rattle.del_msh.specs.DelGeoCore.{add, sub, scale, cross, normalize, basis-xy-from-basis-z, minimum-rotation-matrix, mult-vec}
 use Rattle.del_msh.specs.Trimesh3Primitive.{TriMesh}
 
 module _ (outside : Outside) where
-  infixl 65 _-_
-  abbrev _-_ : ℕ → ℕ → ℕ
-  _-_ = minus outside
+  -- The Rust's `-` and `%` on `usize`, which may panic.
+  infixl 65 _-?_
+  abbrev _-?_ : ℕ → ℕ → ℕ
+  _-?_ = minus outside
 
-  infixl 70 _%_
-  abbrev _%_ : ℕ → ℕ → ℕ
-  _%_ = remainder outside
+  infixl 70 _%?_
+  abbrev _%?_ : ℕ → ℕ → ℕ
+  _%?_ = remainder outside
 
   infixl 90 _at_
   abbrev _at_ : List Point → ℕ → Point
@@ -28,7 +29,7 @@ module _ (outside : Outside) where
   -- line 5
   unfoldable pub vtx2framex : List Point → List Point
   vtx2framex vtx2xyz =
-      let num-vtx = length vtx2xyz in
+      let num-vtx = len vtx2xyz in
       let vtx2bin = vec zeros num-vtx in
       -- first segment
       let p0 = vtx2xyz at 0 in
@@ -40,10 +41,10 @@ module _ (outside : Outside) where
         1 ‥ num-vtx,
         λ iseg1 vtx2bin.
             -- parallel transport
-            let iv0 = iseg1 - 1 in
+            let iv0 = iseg1 -? 1 in
             let iv1 = iseg1 in
-            let iv2 = (iseg1 + 1) % num-vtx in
-            let iseg0 = iseg1 - 1 in
+            let iv2 = (iseg1 + 1) %? num-vtx in
+            let iseg0 = iseg1 -? 1 in
             let p0 = vtx2xyz at iv0 in
             let p1 = vtx2xyz at iv1 in
             let p2 = vtx2xyz at iv2 in
@@ -59,13 +60,13 @@ module _ (outside : Outside) where
   to-trimesh3-torus vtx2xyz vtx2bin rad ndiv-circum =
       let n = ndiv-circum in
       let dtheta = div TAU n in
-      let num-vtx = length vtx2xyz in
+      let num-vtx = len vtx2xyz in
       let pnt2xyz = [] in
       let pnt2xyz = for (
         0 ‥ num-vtx,
         λ ipnt pnt2xyz.
             let p0 = vtx2xyz at ipnt in
-            let p1 = vtx2xyz at ((ipnt + 1) % num-vtx) in
+            let p1 = vtx2xyz at ((ipnt + 1) %? num-vtx) in
             let z0 = normalize (sub p1 p0) in
             let x0 = vtx2bin at ipnt in
             let y0 = cross z0 x0 in
@@ -82,12 +83,12 @@ module _ (outside : Outside) where
         0 ‥ num-vtx,
         λ iseg tri2pnt.
             let ipnt0 = iseg in
-            let ipnt1 = (ipnt0 + 1) % num-vtx in
+            let ipnt1 = (ipnt0 + 1) %? num-vtx in
             for (
               0 ‥ n,
               λ i tri2pnt.
-                  let tri2pnt = push tri2pnt (triangle (ipnt0 * n + i) (ipnt0 * n + (i + 1) % n) (ipnt1 * n + i)) in
-                  push tri2pnt (triangle (ipnt1 * n + (i + 1) % n) (ipnt1 * n + i) (ipnt0 * n + (i + 1) % n)),
+                  let tri2pnt = push tri2pnt (triangle (ipnt0 * n + i) (ipnt0 * n + (i + 1) %? n) (ipnt1 * n + i)) in
+                  push tri2pnt (triangle (ipnt1 * n + (i + 1) %? n) (ipnt1 * n + i) (ipnt0 * n + (i + 1) %? n)),
             ) tri2pnt,
       ) tri2pnt in
       (tri2pnt, pnt2xyz)

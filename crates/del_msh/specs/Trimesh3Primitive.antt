@@ -1,17 +1,17 @@
--- The open cylinder's triangles and the closed cylinder, after trimesh3_primitive.rs of del-msh (see NOTICE): its functions, names, loops and
--- order, with - for _ in a name. Line numbers are the source's; tests/src/del_msh/trimesh3_primitive.rs has the same text to be run.
--- Definitions only.
+-- The open cylinder's triangles and the closed cylinder, after trimesh3_primitive.rs of del-msh
+-- (see NOTICE): its functions, names, loops and order, with - for _ in a name. Line numbers are
+-- the source's; tests/src/del_msh/trimesh3_primitive.rs has the same text to be run. Definitions
+-- only.
 use mathlib.Core.Bool.{Bool}
 use mathlib.Core.List.{List, []}
 use Prim.Native.Nat.{ℕ, _+_, _*_}
 use lib.Dec.{eqb, leb, ltb}
 use lib.Ieee.{Float, neg}
-use lib.ListN.{length}
 use Rattle.surface.specs.Triangles.{Triangle, triangle}
 use Rattle.vec3.specs.Points.{plus, times, over}
 use Rattle.vec3.specs.Turns.{whole}
 use Rattle.vec3.specs.declared.points.Point.{Point}
-use Rattle.del_msh.specs.Vectors.{vec, push, assert, assign, if, for, _‥_}
+use Rattle.del_msh.specs.Vectors.{vec, len, push, assert, assign, if, for, _‥_}
 use Rattle.del_msh.specs.Arrays.{Outside, minus, quotient, remainder, xyz, zero, one, zeros, assign0, assign1, assign2}
 use Rattle.del_msh.specs.DelGeoCore.{TAU, mul, div, cos, sin}
 
@@ -27,24 +27,25 @@ cylinder-open-end-number-of-tri-and-vtx ndiv-circumference ndiv-side =
     (num-tri, num-vtx)
 
 module _ (outside : Outside) where
-  infixl 65 _-_
-  abbrev _-_ : ℕ → ℕ → ℕ
-  _-_ = minus outside
+  -- The Rust's `-`, `/` and `%` on `usize`, which may panic.
+  infixl 65 _-?_
+  abbrev _-?_ : ℕ → ℕ → ℕ
+  _-?_ = minus outside
 
-  infixl 70 _/_
-  abbrev _/_ : ℕ → ℕ → ℕ
-  _/_ = quotient outside
+  infixl 70 _/?_
+  abbrev _/?_ : ℕ → ℕ → ℕ
+  _/?_ = quotient outside
 
-  infixl 70 _%_
-  abbrev _%_ : ℕ → ℕ → ℕ
-  _%_ = remainder outside
+  infixl 70 _%?_
+  abbrev _%?_ : ℕ → ℕ → ℕ
+  _%?_ = remainder outside
 
   -- line 16
   unfoldable pub cylinder-open-end-set-topology : List Triangle → ℕ → List Triangle
   cylinder-open-end-set-topology tri2vtx num-vtxc =
-      let ndiv-side = num-vtxc - 1 in
-      let ndiv-circumference = length tri2vtx / (2 * ndiv-side) in
-      let tri2vtx = assert (eqb (length tri2vtx) (ndiv-side * ndiv-circumference * 2)) tri2vtx in
+      let ndiv-side = num-vtxc -? 1 in
+      let ndiv-circumference = len tri2vtx /? (2 * ndiv-side) in
+      let tri2vtx = assert (eqb (len tri2vtx) (ndiv-side * ndiv-circumference * 2)) tri2vtx in
       for (
         0 ‥ ndiv-side,
         λ i-side tri2vtx.
@@ -52,7 +53,7 @@ module _ (outside : Outside) where
               0 ‥ ndiv-circumference,
               λ i-edge tri2vtx.
                   let i0-vtx = i-side * ndiv-circumference + i-edge in
-                  let i1-vtx = i-side * ndiv-circumference + (i-edge + 1) % ndiv-circumference in
+                  let i1-vtx = i-side * ndiv-circumference + (i-edge + 1) %? ndiv-circumference in
                   let i2-vtx = i0-vtx + ndiv-circumference in
                   let i3-vtx = i1-vtx + ndiv-circumference in
                   let i-quad = i-side * ndiv-circumference + i-edge in
@@ -73,18 +74,18 @@ module _ (outside : Outside) where
       let tri2vtx = for (
         0 ‥ ndiv-circumference,
         λ ic tri2vtx.
-            push tri2vtx (triangle 0 (ic + 1) ((ic + 1) % ndiv-circumference + 1)),
+            push tri2vtx (triangle 0 (ic + 1) ((ic + 1) %? ndiv-circumference + 1)),
       ) tri2vtx in
       let tri2vtx = for (
-        0 ‥ ndiv-longtitude - 2,
+        0 ‥ ndiv-longtitude -? 2,
         λ ih tri2vtx.
             for (
               0 ‥ ndiv-circumference,
               λ ic tri2vtx.
-                  let i1 = (ih + 0) * ndiv-circumference + 1 + (ic + 0) % ndiv-circumference in
-                  let i2 = (ih + 0) * ndiv-circumference + 1 + (ic + 1) % ndiv-circumference in
-                  let i3 = (ih + 1) * ndiv-circumference + 1 + (ic + 1) % ndiv-circumference in
-                  let i4 = (ih + 1) * ndiv-circumference + 1 + (ic + 0) % ndiv-circumference in
+                  let i1 = (ih + 0) * ndiv-circumference + 1 + (ic + 0) %? ndiv-circumference in
+                  let i2 = (ih + 0) * ndiv-circumference + 1 + (ic + 1) %? ndiv-circumference in
+                  let i3 = (ih + 1) * ndiv-circumference + 1 + (ic + 1) %? ndiv-circumference in
+                  let i4 = (ih + 1) * ndiv-circumference + 1 + (ic + 0) %? ndiv-circumference in
                   let tri2vtx = push tri2vtx (triangle i3 i2 i1) in
                   push tri2vtx (triangle i4 i3 i1),
             ) tri2vtx,
@@ -92,9 +93,9 @@ module _ (outside : Outside) where
       for (
         0 ‥ ndiv-circumference,
         λ ic tri2vtx.
-            let i0 = ndiv-circumference * (ndiv-longtitude - 1) + 1 in
-            let i1 = (ndiv-longtitude - 2) * ndiv-circumference + 1 + (ic + 1) % ndiv-circumference in
-            let i2 = (ndiv-longtitude - 2) * ndiv-circumference + 1 + (ic + 0) % ndiv-circumference in
+            let i0 = ndiv-circumference * (ndiv-longtitude -? 1) + 1 in
+            let i1 = (ndiv-longtitude -? 2) * ndiv-circumference + 1 + (ic + 1) %? ndiv-circumference in
+            let i2 = (ndiv-longtitude -? 2) * ndiv-circumference + 1 + (ic + 0) %? ndiv-circumference in
             push tri2vtx (triangle i0 i1 i2),
       ) tri2vtx
 
@@ -126,6 +127,6 @@ module _ (outside : Outside) where
             ) vtx2xyz,
       ) vtx2xyz in
       -- top
-      let vtx2xyz = assign vtx2xyz (num-vtx - 1) (xyz zero (plus y-min length) zero) in
+      let vtx2xyz = assign vtx2xyz (num-vtx -? 1) (xyz zero (plus y-min length) zero) in
       let tri2vtx = cylinder-closed-end-topology ndiv-length ndiv-circumference in
       (tri2vtx, vtx2xyz)

@@ -1,5 +1,6 @@
--- What Rust itself means by the lines that build a list: a vector made, assigned and pushed onto, `assert!`, `if` and `for`. A vector or a slice is
--- the list of its elements, a `usize` a natural number (its limit is far above every number of a permitted body). Definitions only.
+-- What Rust itself means by the lines that build a list: a vector made, assigned and pushed onto,
+-- `assert!`, `if` and `for`. A vector or a slice is the list of its elements, a `usize` a natural
+-- number (its limit is far above every number of a permitted body). Definitions only.
 use mathlib.Core.Bool.{Bool, cond}
 use mathlib.Core.List.{List, [], _∷_, _++_}
 use Prim.Native.Nat.{ℕ, zero, suc}
@@ -11,11 +12,16 @@ module _ {ℓ} {A : Type ℓ} where
   abbrev pub vec : A → ℕ → List A
   vec x n = replicate n x
 
+  -- `xs.len()`
+  abbrev pub len : List A → ℕ
+  len xs = length xs
+
   -- `xs.push(x)`
   abbrev pub push : List A → A → List A
   push xs x = xs ++ (x ∷ [])
 
-  -- `assert!(test)`, beside the vector that the lines after it use. Where it fails the Rust panics: nothing is left.
+  -- `assert!(test)`, beside the vector that the lines after it use. Where it fails the Rust
+  -- panics: nothing is left.
   abbrev pub assert : Bool → List A → List A
   assert test xs = cond test xs []
 
@@ -47,7 +53,8 @@ abbrev pub _‥_ : ℕ → ℕ → Range
 a ‥ b = record { start = a; end = b }
 
 module _ {ℓ} {S : Type ℓ} where
-  -- the turns from a up to b − 1, one after the other: those before the last, and then the last; none where a is not below b
+  -- the turns from a up to b − 1, one after the other: those before the last, and then the last;
+  -- none where a is not below b
   abbrev pub turns : ℕ → ℕ → (ℕ → S → S) → S → S
   turns a zero turn state = state
   turns a (suc b) turn state = cond (leb a b) (turn b (turns a b turn state)) state

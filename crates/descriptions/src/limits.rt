@@ -50,7 +50,9 @@ impl Description {
                 Torus::MOST_VERTICES,
                 vertices,
             ),
-            Description::ClosedCylinder { .. } => vertices == 0,
+            Description::ClosedCylinder { .. } => {
+                vertices == ClosedCylinder::CURVE_VERTICES as usize
+            }
         }
     }
 

@@ -13,13 +13,13 @@ use Rattle.surface.specs.declared.grid.Chain.the-variants.{Open, Closed}
 use Rattle.surface.specs.declared.quads.Split as Split
 use Rattle.surface.specs.declared.quads.Split.the-variants as Splits
 use Rattle.surface.specs.declared.grid.Chain.{Chain}
-use Rattle.edges.specs.Edges.{edges, unmatched, NoneTwice, Within, leastSteps, ends}
+use Rattle.edges.specs.Edges.{Edge, edges, unmatched, NoneTwice, Within, leastSteps, ends}
 use Rattle.edges.proofs.GridList.{grid-within, grid-once, grid-unmatched}
 use Rattle.edges.proofs.Capped.{capped, capped-within, capped-once, capped-matched}
 use Rattle.edges.proofs.Matching.{matched-of, of-matched}
 use Rattle.kinds.specs.Lists.{next, ring, ribbonQuad, tubeQuad, torusQuad, layerQuad, bottomTriangles, layers, topTriangles, closedTriangles, torusTriangles, tubeTriangles, ribbonTriangles}
 use Rattle.kinds.specs.Kinds.{permitted, vertexCount, triangleCount, trianglesOf, layersOf}
-use Rattle.kinds.specs.Claims.{IsClosed, openEdges, Enough, Claims}
+use Rattle.kinds.specs.Claims.{Reverses, Enough, Claims}
 use Rattle.kinds.specs.declared.topology.Topology.{Topology}
 use Rattle.kinds.specs.declared.topology.Topology.the-variants.{Ribbon, Tube, Capsule, Torus, ClosedCylinder}
 use Rattle.kinds.proofs.AsSurface.{ribbon-list, tube-list, torus-list, closed-list}
@@ -33,7 +33,8 @@ shift-length : (first : ℕ) (ts : List Triangle) → length (shift first ts) �
 shift-length first [] = refl
 shift-length first (triangle a b c ∷ ts) = ap suc (shift-length first ts)
 
--- A list of triangles, by what is claimed of it: v vertices numbered from `first` on, no edge twice, u edges unmatched.
+-- A list of triangles, by what is claimed of it: v vertices numbered from `first` on, no edge
+-- twice, u edges unmatched.
 record Listed (first v u : ℕ) (ts : List Triangle) : Type 0 where
   inside : Within first (first + v) ts
   once : NoneTwice (edges ts)
@@ -86,12 +87,20 @@ closed-length n S =
 
 -- ---- the theorem
 
-closed-kinds : (t : Topology) → IsClosed t → openEdges t ≡ 0
-closed-kinds (Ribbon k) c = absurd c
-closed-kinds (Tube k) c = absurd c
-closed-kinds (Capsule k) c = refl
-closed-kinds (Torus k) c = refl
-closed-kinds (ClosedCylinder k) c = refl
+-- how many edges are unmatched, for every kind alike
+abbrev openEdges : Topology → ℕ
+openEdges (Ribbon k) = 2 * k .segments + 2
+openEdges (Tube k) = 2 * k .divisions
+openEdges (Capsule k) = 0
+openEdges (Torus k) = 0
+openEdges (ClosedCylinder k) = 0
+
+reversed : (t : Topology) (es : List Edge) → unmatched es ≡ openEdges t → Reverses t es
+reversed (Ribbon k) es e = e
+reversed (Tube k) es e = e
+reversed (Capsule k) es e = matched-of es e
+reversed (Torus k) es e = matched-of es e
+reversed (ClosedCylinder k) es e = matched-of es e
 
 listed : (t : Topology) → Enough t → (first : ℕ) → Listed first (vertexCount t) (openEdges t) (shift first (trianglesOf t))
 listed (Ribbon k) h first = ribbon-listed first (k .segments) h
@@ -114,8 +123,7 @@ claims t h first =
     record {
       inside = l .inside;
       once = l .once;
-      closed = λ c. matched-of (edges (shift first (trianglesOf t))) (l .open-edges ∙ closed-kinds t c);
-      open-edges = l .open-edges;
+      reverses = reversed t (edges (shift first (trianglesOf t))) (l .open-edges);
       triangles = shift-length first (trianglesOf t) ∙ counted t;
     }
 
@@ -134,7 +142,8 @@ enough (ClosedCylinder k) b = (b .0 .0, b .1 .0)
 pub permitted-claims : (t : Topology) → permitted t ≡ true → Claims t 0 (trianglesOf t) × ((first : ℕ) → Claims t first (shift first (trianglesOf t)))
 permitted-claims t p = let h = enough t (bounds t p) in (local-claims t h, claims t h)
 
--- "A capsule of n divisions and m segments has exactly 2n(2L + m - 1) triangles, L being its longitude divisions."
+-- "A capsule of n divisions and m segments has exactly 2n(2L + m - 1) triangles, L being its
+-- longitude divisions."
 pub capsule-triangles : (n L m : ℕ) → 3 ≤ 2 * L + m → length (trianglesOf (Capsule (record { divisions = n; longitudes = L; segments = m }))) ≡ 2 * n * (2 * L + m - 1)
 capsule-triangles n L m h =
     let e : 2 * L + m - 2 + 1 ≡ 2 * L + m - 1 = omega arith in

@@ -21,6 +21,8 @@ impl ClosedCylinder {
     pub const LEAST_LAYERS: u16 = 1;
 
     pub const MOST_LAYERS: u16 = 4096;
+    // It has no curve: "closed cylinder 0" (document 01, refusal 10).
+    pub const CURVE_VERTICES: u16 = 0;
 
     pub fn is_permitted(self) -> bool
         ensures { λ r. ⌜ r ≡ permitted (Topology.ClosedCylinder self) ⌝ }

@@ -30,6 +30,9 @@ is-between-requires c κs = search needs
 enum-told-5 : tie.Need-enum-told-5
 enum-told-5 c = search needs
 
+cast-result : tie.Need-cast-result
+cast-result c = search needs
+
 returns : tie.Need-returns
 returns c = rw (c .before .enum-told .given .1) (c .is-open-curve .ensures)
 
@@ -58,6 +61,7 @@ are-vertices-permitted-spec =
     enum-told-4
     is-between-requires
     enum-told-5
+    cast-result
     returns
     returns-2
     returns-3
