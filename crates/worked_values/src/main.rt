@@ -1,19 +1,20 @@
-// Prints the worked values of root, turn, first frame and transport step: a line for each case, with its words and the words of
-// its result in hexadecimal. The expected output was made outside Rattle, by tests/src/bin/worked_values.rs.
+// Prints the worked values of root, turn, first frame and transport step: a line for each case, with
+// its words and the words of its result in hexadecimal. What it must print was made outside Rattle,
+// by tests/src/bin/worked_values.rs.
 mod cases;
 
 ghost use Prim.Native.Nat.{_≤_};
 ghost use lib.ListN.{length};
 ghost use Rattle.io.specs.Counts.{Counts};
 use crate::cases::FIRST_FRAME_COUNT;
-use crate::cases::FIRST_FRAMES;
 use crate::cases::LINE_COUNT;
 use crate::cases::ROOT_COUNT;
-use crate::cases::ROOTS;
 use crate::cases::TRANSPORT_STEP_COUNT;
-use crate::cases::TRANSPORT_STEPS;
 use crate::cases::TURN_COUNT;
-use crate::cases::TURNS;
+use crate::cases::first_frame_case;
+use crate::cases::root_case;
+use crate::cases::transport_step_case;
+use crate::cases::turn_case;
 use float32::from_word;
 use float32::root;
 use float32::to_word;
@@ -95,23 +96,19 @@ fn put_line(out: &mut [u8], at: usize, i: usize) -> usize
     ensures { λ r. ⌜ r ≤ length (now (out .exit)) ⌝ }
 {
     if i < ROOT_COUNT {
-        let cases = ROOTS;
-        return put_root(out, at, cases[i]);
+        return put_root(out, at, root_case(i));
     }
     let i = i - ROOT_COUNT;
     if i < TURN_COUNT {
-        let cases = TURNS;
-        return put_turn(out, at, cases[i]);
+        return put_turn(out, at, turn_case(i));
     }
     let i = i - TURN_COUNT;
     if i < FIRST_FRAME_COUNT {
-        let cases = FIRST_FRAMES;
-        return put_first_frame(out, at, cases[i]);
+        return put_first_frame(out, at, first_frame_case(i));
     }
     let i = i - FIRST_FRAME_COUNT;
     if i < TRANSPORT_STEP_COUNT {
-        let cases = TRANSPORT_STEPS;
-        return put_transport_step(out, at, cases[i]);
+        return put_transport_step(out, at, transport_step_case(i));
     }
     at
 }

@@ -1,6 +1,7 @@
--- `hex_lines::put_byte` meets its contract: the byte is stored where there is room. Assumes nothing.
+-- A store leaves the buffer as long as it was. Assumes nothing.
+use native.Mathlib.Omega.{arith}
 use borrow.Author.Needs.{needs}
-use Rattle.hex_lines.proofs.Behind.{put-one, put-none}
+use lib.ListN.{length-set}
 use Rattle.hex_lines.proofs.put_byte.Statement.{statement}
 use Rattle.hex_lines.proofs.put_byte.Tie as tie
 
@@ -14,10 +15,10 @@ same-length : tie.Need-same-length
 same-length c = search needs
 
 returns : tie.Need-returns
-returns c = put-one _ _ _ (c .if1 .taken)
+returns c = simp length-set (omega arith)
 
 returns-2 : tie.Need-returns-2
-returns-2 c = put-none _ _ _ (c .if1 .left)
+returns-2 c = search needs
 
 pub put-byte-spec : {M : Type 1} → statement M
 put-byte-spec = tie.close (tie.spec slice-write-out add-result same-length returns returns-2)

@@ -1,33 +1,28 @@
--- Each turn of the loop puts one digit behind the last. Assumes nothing.
-use mathlib.Core.Path.{_≡_, ap}
-use mathlib.Core.List.{[], _∷_}
-use Prim.Native.Nat.{ℕ, _-_, _≤_}
-use native.Mathlib.Omega.{arith}
+-- Each turn of the loop writes one digit, and the place stays within the buffer. Assumes nothing.
+use mathlib.Core.Path.{_≡_}
+use Prim.Native.Nat.{_-_, _≤_}
 use borrow.Author.Needs.{needs}
-use Rattle.laws.specs.Blocks.{blocks}
-use Rattle.hex_lines.specs.Put.{Put}
-use Rattle.hex_lines.specs.Text.{wordDigit, wordText}
-use Rattle.hex_lines.proofs.Behind.{put-nothing, put-block, put-blocks, put-length}
+use lib.ListN.{length}
 use Rattle.hex_lines.proofs.put_word.Statement.{statement}
 use Rattle.hex_lines.proofs.put_word.Tie as tie
 
 abbrev Inv-loop : tie.InvT-loop
-Inv-loop out₀ at w place₀ i₀ out place i = (i ≤ 8) × Put (blocks i (wordDigit w)) at out₀ place out
+Inv-loop out₀ at w place₀ i₀ out place i = (i ≤ 8) × (place ≤ length out) × (length out ≡ length out₀)
 
 abbrev μ-loop : tie.MeasureT-loop
 μ-loop out₀ at w place₀ i₀ out place i = 8 - i
 
 loop-holds : tie.Need-loop-holds Inv-loop μ-loop
-loop-holds c = (omega arith, put-nothing _ _)
+loop-holds c = search needs
 
 mul-digit : tie.Need-mul-digit Inv-loop μ-loop
-mul-digit c = omega arith
+mul-digit c = search needs
 
 sub-digit : tie.Need-sub-digit Inv-loop μ-loop
-sub-digit c = omega arith
+sub-digit c = search needs
 
 shr-digit : tie.Need-shr-digit Inv-loop μ-loop
-shr-digit c = omega arith
+shr-digit c = search needs
 
 digit-requires : tie.Need-digit-requires Inv-loop μ-loop
 digit-requires c κs = search needs
@@ -36,27 +31,19 @@ put-byte-requires : tie.Need-put-byte-requires Inv-loop μ-loop
 put-byte-requires c κs = search needs
 
 add-i : tie.Need-add-i Inv-loop μ-loop
-add-i c = omega arith
+add-i c = search needs
 
 loop-less : tie.Need-loop-less Inv-loop μ-loop
-loop-less c = omega arith
+loop-less c = search needs
 
 loop-again : tie.Need-loop-again Inv-loop μ-loop
-unfolding wordDigit
-loop-again c =
-    let l = c .before .before .before .before .before .before .loop in
-    let w = c .before .before .before .before .before .before .before .before .args .w in
-    let e = ap (λ (d : ℕ). d ∷ []) (c .before .before .before .digit .ensures) in
-    (omega arith, put-block (wordDigit w) (l .i) (l .inv .1) (c .before .before .put-byte .ensures) e)
+loop-again c = search needs
 
 same-length : tie.Need-same-length Inv-loop μ-loop
-same-length c = put-length (c .before .loop .inv .1)
+same-length c = search needs
 
 returns : tie.Need-returns Inv-loop μ-loop
-unfolding wordText
-returns c =
-    let e : c .before .loop .i ≡ 8 = omega arith in
-    put-blocks (wordDigit (c .before .before .before .args .w)) e (c .before .loop .inv .1)
+returns c = search needs
 
 pub put-word-spec : {M : Type 1} → statement M
 put-word-spec =

@@ -1,31 +1,25 @@
--- Each turn of the loop puts one word behind the last, and what follows it. Assumes nothing.
-use mathlib.Core.Path.{_≡_, ap}
-use mathlib.Core.List.{[], _∷_, _++_}
-use Prim.Native.Nat.{ℕ, _-_, _≤_}
-use native.Mathlib.Omega.{arith}
+-- Each turn of the loop writes one word, and the place stays within the buffer. Assumes nothing.
+use mathlib.Core.Path.{_≡_}
+use Prim.Native.Nat.{_-_, _≤_}
 use borrow.Author.Needs.{needs}
-use lib.ListN.{length, getD}
-use Rattle.laws.specs.Blocks.{blocks}
-use Rattle.hex_lines.specs.Put.{Put}
-use Rattle.hex_lines.specs.Text.{wordText, wordOf, wordsText}
-use Rattle.hex_lines.proofs.Behind.{put-nothing, put-behind, put-block, put-blocks, put-length}
+use lib.ListN.{length}
 use Rattle.hex_lines.proofs.put_words.Statement.{statement}
 use Rattle.hex_lines.proofs.put_words.Tie as tie
 
 abbrev Inv-loop : tie.InvT-loop
-Inv-loop out₀ at words end place₀ i₀ out place i = (i ≤ length words) × Put (blocks i (wordOf words end)) at out₀ place out
+Inv-loop out₀ at words end place₀ i₀ out place i = (i ≤ length words) × (place ≤ length out) × (length out ≡ length out₀)
 
 abbrev μ-loop : tie.MeasureT-loop
 μ-loop out₀ at words end place₀ i₀ out place i = length words - i
 
 loop-holds : tie.Need-loop-holds Inv-loop μ-loop
-loop-holds c = (omega arith, put-nothing _ _)
+loop-holds c = search needs
 
 mul-put-word : tie.Need-mul-put-word Inv-loop μ-loop
-mul-put-word c = omega arith
+mul-put-word c = search needs
 
 shared-slice-read-put-word : tie.Need-shared-slice-read-put-word Inv-loop μ-loop
-shared-slice-read-put-word c = omega arith
+shared-slice-read-put-word c = search needs
 
 put-word-requires : tie.Need-put-word-requires Inv-loop μ-loop
 put-word-requires c κs = search needs
@@ -37,29 +31,19 @@ put-byte-requires : tie.Need-put-byte-requires Inv-loop μ-loop
 put-byte-requires c κs = search needs
 
 add-i : tie.Need-add-i Inv-loop μ-loop
-add-i c = omega arith
+add-i c = search needs
 
 loop-less : tie.Need-loop-less Inv-loop μ-loop
-loop-less c = omega arith
+loop-less c = search needs
 
 loop-again : tie.Need-loop-again Inv-loop μ-loop
-unfolding wordOf
-loop-again c =
-    let l = c .before .before .before .before .before .before .before .before .before .before .before .loop in
-    let a = c .before .before .before .before .before .before .before .before .before .before .before .before .before .before .args in
-    let e = ap (λ (b : ℕ). wordText (getD (a .words .now) (l .i) 0) ++ (b ∷ [])) (c .before .before .before .break-after .ensures) in
-    let p = put-behind (c .before .before .before .before .before .before .before .put-word .ensures) (c .before .before .put-byte .ensures) in
-    (omega arith, put-block (wordOf (a .words .now) (a .end)) (l .i) (l .inv .1) p e)
+loop-again c = search needs
 
 same-length : tie.Need-same-length Inv-loop μ-loop
-same-length c = put-length (c .before .loop .inv .1)
+same-length c = search needs
 
 returns : tie.Need-returns Inv-loop μ-loop
-unfolding wordsText
-returns c =
-    let a = c .before .before .before .before .args in
-    let e : c .before .loop .i ≡ length (a .words .now) = omega arith in
-    put-blocks (wordOf (a .words .now) (a .end)) e (c .before .loop .inv .1)
+returns c = search needs
 
 pub put-words-spec : {M : Type 1} → statement M
 put-words-spec =
