@@ -1,8 +1,8 @@
 // Replays a fixed list of additions: reads its steps from standard input, fills the buffers with
 // garbage, clears the table, and prints a line for each step. What it must print was made outside
-// Rattle, by tests/src/bin/worked_additions.rs from the adapted functions of del-msh and the readings
-// of document 01. That output is compared, so the contracts here serve only to prove the program safe
-// and ending.
+// Rattle, by tests/src/bin/worked_additions.rs from the adapted functions of del-msh and the
+// readings of document 01. That output is compared, so the contracts here serve only to prove the
+// program safe and ending.
 mod digest;
 mod garbage;
 mod replay;
@@ -48,15 +48,7 @@ fn main() {
     let mut table = [0u32; TABLE_WORDS];
     let mut vertices = [0f32; VERTEX_FLOATS];
     let mut triangles = [0u32; TRIANGLE_WORDS];
-    let mut text = io::large_buffer();
     let count = read_input(&mut words);
     prepare(&mut table, &mut vertices, &mut triangles);
-    let end = replay(
-        &words[..count],
-        &mut table,
-        &mut vertices,
-        &mut triangles,
-        &mut text,
-    );
-    io::write_all(1, &text[..end]);
+    replay(&words[..count], &mut table, &mut vertices, &mut triangles);
 }

@@ -85,8 +85,8 @@ pub(crate) fn step(
     )
 }
 
-// The length of the step that `words` begins with: its head and its record. At most HEAD where there
-// is no step.
+// The length of the step that `words` begins with: its head and its record. At most HEAD where
+// there is no step.
 pub(crate) fn step_words(words: &[u32]) -> usize
     ensures { λ r. ⌜ r ≤ length (now (words .entry)) ⌝ }
 {

@@ -1,5 +1,5 @@
-// The cases, the same as in tests/src/cases.rs. A function of its own reads each table: one function
-// with all four tables as locals takes longer to check than the rest of the program.
+// The cases, the same as in tests/src/cases.rs. A function of its own reads each table: one
+// function with all four tables as locals takes longer to check than the rest of the program.
 ghost use Prim.Native.Nat.{_<_};
 
 pub const ROOT_COUNT: usize = 64;

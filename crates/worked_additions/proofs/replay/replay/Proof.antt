@@ -1,20 +1,18 @@
--- Each step lies within the words that are left, and its line within the buffer. Assumes nothing.
+-- Each step lies within the words that are left. Assumes nothing.
 use mathlib.Core.Path.{_≡_}
-use Prim.Native.Nat.{_+_, _-_, _≤_}
-use native.Mathlib.Omega.{arith}
+use Prim.Native.Nat.{_-_, _≤_}
 use borrow.Author.Needs.{needs}
-use lib.ListN.{length, length-take, length-drop}
+use lib.ListN.{length}
 use Rattle.worked_additions.proofs.replay.replay.Statement.{statement}
 use Rattle.worked_additions.proofs.replay.replay.Tie as tie
 
 abbrev Inv-loop : tie.InvT-loop
-Inv-loop words table₀ vertices₀ triangles₀ out₀ place₀ at₀ count₀ table vertices triangles out place at count =
-    (at + count ≤ length words) × (place ≤ length out) × (length out ≡ length out₀)
-    × (length table ≡ length table₀) × (length vertices ≡ length vertices₀) × (length triangles ≡ length triangles₀)
+Inv-loop words table₀ vertices₀ triangles₀ at₀ table vertices triangles at =
+    (at ≤ length words) × (length table ≡ length table₀) × (length vertices ≡ length vertices₀)
+    × (length triangles ≡ length triangles₀)
 
 abbrev μ-loop : tie.MeasureT-loop
-μ-loop words table₀ vertices₀ triangles₀ out₀ place₀ at₀ count₀ table vertices triangles out place at count =
-    length words - at
+μ-loop words table₀ vertices₀ triangles₀ at₀ table vertices triangles at = length words - at
 
 pub replay-spec : {M : Type 1} → statement M
 replay-spec =
@@ -22,16 +20,6 @@ replay-spec =
     (tie.spec
     Inv-loop
     μ-loop
-    (λ c κs. search needs)
-    (λ c. search needs)
-    (λ c. search needs)
-    (λ c. search needs)
-    (λ c. search needs)
-    (λ c. search needs)
-    (λ c κs. simp (length-take, length-drop) (omega arith))
-    (λ c κs. search needs)
-    (λ c. search needs)
-    (λ c κs. search needs)
     (λ c. search needs)
     (λ c. search needs)
     (λ c. search needs)
@@ -44,4 +32,4 @@ replay-spec =
     (λ c. search needs)
     (λ c. search needs)
     (λ c. search needs)
-    (λ c. simp length-take (omega arith)))
+    (λ c. search needs))

@@ -12,8 +12,9 @@ within : (c : tie.After-record-words) → let words = now (c .before .before .be
     5 + c .record-words .result ≤ length words
 within c =
     let words = now (c .before .before .before .before .args .words) in
-    let rest = take (length words - 5) (drop 5 words) in
-    omega (arith, c .record-words .ensures, record-fits rest, length-take (length words - 5) (drop 5 words), length-drop 5 words)
+    let count = length words - 5 in
+    let long = length-take count (drop 5 words) in
+    omega (arith, c .record-words .ensures, record-fits (take count (drop 5 words)), long, length-drop 5 words)
 
 pub step-words-spec : {M : Type 1} → statement M
 step-words-spec =
