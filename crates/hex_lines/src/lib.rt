@@ -1,49 +1,35 @@
-// Lines of hexadecimal words, put one behind the other into a buffer of bytes. Each function takes the place to start from and
-// answers the place to go on from; what would fall past the buffer's end is left out.
-ghost use mathlib.Core.Path.{_≡_};
+// Prints hexadecimal words, for the programs whose output is compared. What is printed is
+// compared and not proved, so no function here says anything of it.
 ghost use Prim.Native.Nat.{_<_};
-ghost use mathlib.Core.List.{[], _∷_, _++_};
-ghost use Rattle.hex_lines.specs.Text.{digitOf, wordText, breakAfter, wordsText};
-ghost use Rattle.hex_lines.specs.Put.{Put};
 
-fn put_byte(out: &mut [u8], at: usize, b: u8) -> usize
-    ensures { λ r. ⌜ Put (b ∷ []) at (now (out .entry)) r (now (out .exit)) ⌝ }
-{
-    if at < out.len() {
-        out[at] = b;
-        return at + 1;
+// The last hexadecimal digit of d, in upper case.
+fn digit(d: u32) -> u8 {
+    let last = (d % 16) as u8;
+    if last < 10 {
+        return b'0' + last;
     }
-    at
+    b'A' + (last - 10)
 }
 
-// The digit d, in upper case.
-fn digit(d: u32) -> u8
-    requires { ⌜ d < 16 ⌝ }
-    ensures { λ r. ⌜ r ≡ digitOf d ⌝ }
-{
-    if d < 10 {
-        return b'0' + d as u8;
-    }
-    b'A' + (d - 10) as u8
-}
-
-// The eight digits of w.
-fn put_word(out: &mut [u8], at: usize, w: u32) -> usize
-    ensures { λ r. ⌜ Put (wordText w) at (now (out .entry)) r (now (out .exit)) ⌝ }
-{
-    let mut place = at;
-    let mut i = 0u32;
-    while i < 8 {
-        place = put_byte(out, place, digit((w >> (28 - 4 * i)) % 16));
-        i += 1;
-    }
-    place
+// Prints the eight digits of w, then `end`.
+fn print_word(w: u32, end: u8) {
+    let text = [
+        digit(w >> 28),
+        digit(w >> 24),
+        digit(w >> 20),
+        digit(w >> 16),
+        digit(w >> 12),
+        digit(w >> 8),
+        digit(w >> 4),
+        digit(w),
+        end,
+    ];
+    io::write_all(1, &text);
 }
 
 // What follows word i of n: a space, or `end` after the last.
 fn break_after(i: usize, n: usize, end: u8) -> u8
     requires { ⌜ i < n ⌝ }
-    ensures { λ r. ⌜ r ≡ breakAfter i n end ⌝ }
 {
     if i + 1 < n {
         return b' ';
@@ -51,29 +37,12 @@ fn break_after(i: usize, n: usize, end: u8) -> u8
     end
 }
 
-// The words with a space between each two, and `end` after the last: a space where more words follow, else the line's end.
-pub fn put_words(out: &mut [u8], at: usize, words: &[u32], end: u8) -> usize
-    ensures { λ r. ⌜ Put (wordsText (now (words .entry)) end) at (now (out .entry)) r (now (out .exit)) ⌝ }
-{
-    let mut place = at;
-    let mut i = 0;
+// Prints the words with a space between each two, and `end` after the last: a space where more
+// words follow, else the line's end.
+pub fn print_words(words: &[u32], end: u8) {
+    let mut i: usize = 0;
     while i < words.len() {
-        place = put_word(out, place, words[i]);
-        place = put_byte(out, place, break_after(i, words.len(), end));
+        print_word(words[i], break_after(i, words.len(), end));
         i += 1;
     }
-    place
-}
-
-// The name that a line begins with, and a space.
-pub fn put_name(out: &mut [u8], at: usize, name: &[u8]) -> usize
-    ensures { λ r. ⌜ Put (now (name .entry) ++ (32 ∷ [])) at (now (out .entry)) r (now (out .exit)) ⌝ }
-{
-    let mut place = at;
-    let mut i = 0;
-    while i < name.len() {
-        place = put_byte(out, place, name[i]);
-        i += 1;
-    }
-    put_byte(out, place, b' ')
 }

@@ -1,13 +1,8 @@
 // What the buffers hold before the first step: words of any size, and floats of any sort.
-ghost use mathlib.Core.Path.{_≡_};
-ghost use lib.ListN.{length};
-ghost use Rattle.worked_additions.specs.Garbage.{anyWords, anyFloats};
 use crate::digest::mix;
 use float32::from_word;
 
-pub(crate) fn fill_words(seed: u32, words: &mut [u32])
-    ensures { λ _. ⌜ now (words .exit) ≡ anyWords seed (length (now (words .entry))) ⌝ }
-{
+pub(crate) fn fill_words(seed: u32, words: &mut [u32]) {
     let mut state = seed;
     let mut i: usize = 0;
     while i < words.len() {
@@ -17,9 +12,7 @@ pub(crate) fn fill_words(seed: u32, words: &mut [u32])
     }
 }
 
-pub(crate) fn fill_floats(seed: u32, floats: &mut [f32])
-    ensures { λ _. ⌜ now (floats .exit) ≡ anyFloats seed (length (now (floats .entry))) ⌝ }
-{
+pub(crate) fn fill_floats(seed: u32, floats: &mut [f32]) {
     let mut state = seed;
     let mut i: usize = 0;
     while i < floats.len() {

@@ -1,33 +1,45 @@
 ghost use Prim.Native.Nat.{_≤_};
 ghost use lib.ListN.{length};
-ghost use Rattle.set_table.specs.Buffers.{buffers};
-ghost use Rattle.hex_lines.specs.Put.{Put};
-ghost use Rattle.worked_additions.specs.Steps.{textOf};
 use crate::digest::digest;
+use crate::step::HEAD;
 use crate::step::step;
 use crate::step::step_words;
-use hex_lines::put_words;
+use hex_lines::print_words;
 
-// Does all steps, and puts a line for each: the number that its addition got, and the digest of what all buffers then hold.
+// Does the step that `words` begins with, and prints its line: the number that its addition
+// answered, and the digest of what all buffers then hold. Answers how many words the step has, 0
+// where there is none.
+fn print_step(
+    words: &[u32],
+    table: &mut [u32],
+    vertices: &mut [f32],
+    triangles: &mut [u32],
+) -> usize
+    ensures { λ r. ⌜ r ≤ length (now (words .entry)) ⌝ }
+{
+    let count = step_words(words);
+    if count <= HEAD {
+        return 0;
+    }
+    let number = step(words, table, vertices, triangles);
+    let digest = digest(table, vertices, triangles);
+    print_words(&[number, digest], b'\n');
+    count
+}
+
+// Does all steps.
 pub(crate) fn replay(
     words: &[u32],
     table: &mut [u32],
     vertices: &mut [f32],
     triangles: &mut [u32],
-    out: &mut [u8],
-) -> usize
-    ensures { λ r. let s = buffers (now (table .entry)) (now (vertices .entry)) (now (triangles .entry)) in
-        ⌜ Put (textOf (now (words .entry)) s) 0 (now (out .entry)) r (now (out .exit)) ⌝ }
-{
-    let mut place: usize = 0;
+) {
     let mut at: usize = 0;
-    let mut count = step_words(words);
-    while count != 0 {
-        let number = step(&words[at..], table, vertices, triangles);
-        let line = [number, digest(table, vertices, triangles)];
-        place = put_words(out, place, &line, b'\n');
+    loop {
+        let count = print_step(&words[at..], table, vertices, triangles);
+        if count == 0 {
+            return;
+        }
         at += count;
-        count = step_words(&words[at..]);
     }
-    place
 }

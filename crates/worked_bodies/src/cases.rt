@@ -1,7 +1,7 @@
 // The cases, the same as in tests/src/cases.rs.
 
-// Curves of the worked bodies: the vertex count, then the bits of the coordinates, three words a vertex. Words past
-// the last vertex are 0.
+// Curves of the worked bodies: the vertex count, then the bits of the coordinates, three words a
+// vertex. Words past the last vertex are 0.
 pub const CURVES: [[u32; 16]; 8] = [
     // none
     [
@@ -157,9 +157,10 @@ pub const CURVES: [[u32; 16]; 8] = [
     ],
 ];
 
-// Bodies: kind, divisions, longitudes, centred, bits of the size, bits of the length, place of the curve above.
-// The kinds are document 01's numbers, and what a kind lacks is 0. The longitudes of a closed cylinder are its
-// layers, and the size of a ribbon is its width, of the others the radius.
+// Bodies: kind, divisions, longitudes, centred, bits of the size, bits of the length, place of
+// the curve above. The kinds are document 01's numbers, and what a kind lacks is 0. The
+// longitudes of a closed cylinder are its layers, and the size of a ribbon is its width, of the
+// others the radius.
 pub const BODIES: [[u32; 7]; 14] = [
     [1, 0, 0, 0, 0x40000000, 0x00000000, 1],
     [1, 0, 0, 0, 0x3F400000, 0x00000000, 5],

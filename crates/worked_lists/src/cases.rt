@@ -1,7 +1,8 @@
 // The cases, the same as in tests/src/cases.rs.
 
-// Triangle lists: kind, divisions, longitudes, run, first vertex. The kinds are document 01's numbers, sizes that a kind lacks are 0,
-// and the run is the segments of a ribbon, tube or capsule, the curve vertices of a torus, the layers of a closed cylinder.
+// Triangle lists: kind, divisions, longitudes, run, first vertex. The kinds are document 01's
+// numbers, sizes that a kind lacks are 0, and the run is the segments of a ribbon, tube or
+// capsule, the curve vertices of a torus, the layers of a closed cylinder.
 pub const LISTS: [[u32; 5]; 14] = [
     [1, 0, 0, 1, 0],
     [1, 0, 0, 1, 1000],

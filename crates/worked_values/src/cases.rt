@@ -1,4 +1,7 @@
-// The cases, the same as in tests/src/cases.rs.
+// The cases, the same as in tests/src/cases.rs. A function of its own reads each table: one
+// function with all four tables as locals takes longer to check than the rest of the program.
+ghost use Prim.Native.Nat.{_<_};
+
 pub const ROOT_COUNT: usize = 64;
 
 pub const TURN_COUNT: usize = 45;
@@ -10,7 +13,7 @@ pub const TRANSPORT_STEP_COUNT: usize = 25;
 pub const LINE_COUNT: usize = ROOT_COUNT + TURN_COUNT + FIRST_FRAME_COUNT + TRANSPORT_STEP_COUNT;
 
 // Bits of the numbers whose roots are worked out.
-pub const ROOTS: [u32; ROOT_COUNT] = [
+const ROOTS: [u32; ROOT_COUNT] = [
     // both zeros
     0x00000000,
     0x80000000,
@@ -88,7 +91,7 @@ pub const ROOTS: [u32; ROOT_COUNT] = [
 ];
 
 // Pairs of k and n whose direction is worked out.
-pub const TURNS: [[u32; 2]; TURN_COUNT] = [
+const TURNS: [[u32; 2]; TURN_COUNT] = [
     [0, 1],
     [0, 2],
     [1, 2],
@@ -138,7 +141,7 @@ pub const TURNS: [[u32; 2]; TURN_COUNT] = [
 ];
 
 // Bits of directions whose first frame is worked out.
-pub const FIRST_FRAMES: [[u32; 3]; FIRST_FRAME_COUNT] = [
+const FIRST_FRAMES: [[u32; 3]; FIRST_FRAME_COUNT] = [
     // the axes, both ways
     [0x3F800000, 0x00000000, 0x00000000],
     [0xBF800000, 0x00000000, 0x00000000],
@@ -181,7 +184,7 @@ pub const FIRST_FRAMES: [[u32; 3]; FIRST_FRAME_COUNT] = [
 
 // Bits of the segment before, the segment after and the frame whose transport is worked out.
 // Both segments are normalised first, the frame is taken as it is.
-pub const TRANSPORT_STEPS: [[[u32; 3]; 3]; TRANSPORT_STEP_COUNT] = [
+const TRANSPORT_STEPS: [[[u32; 3]; 3]; TRANSPORT_STEP_COUNT] = [
     // straight on: along z, with another length, among zeros of both signs, oblique
     [
         [0x00000000, 0x00000000, 0x3F800000],
@@ -316,3 +319,31 @@ pub const TRANSPORT_STEPS: [[[u32; 3]; 3]; TRANSPORT_STEP_COUNT] = [
         [0x00000000, 0x00000000, 0x3F800000],
     ],
 ];
+
+pub(crate) fn root_case(i: usize) -> u32
+    requires { ⌜ i < 64 ⌝ }
+{
+    let cases = ROOTS;
+    cases[i]
+}
+
+pub(crate) fn turn_case(i: usize) -> [u32; 2]
+    requires { ⌜ i < 45 ⌝ }
+{
+    let cases = TURNS;
+    cases[i]
+}
+
+pub(crate) fn first_frame_case(i: usize) -> [u32; 3]
+    requires { ⌜ i < 31 ⌝ }
+{
+    let cases = FIRST_FRAMES;
+    cases[i]
+}
+
+pub(crate) fn transport_step_case(i: usize) -> [[u32; 3]; 3]
+    requires { ⌜ i < 25 ⌝ }
+{
+    let cases = TRANSPORT_STEPS;
+    cases[i]
+}

@@ -3,7 +3,7 @@ use mathlib.Core.Path.{sym, ap, _∙_, subst}
 use Prim.Native.Nat.{_*_, _/_, _≤_}
 use native.Mathlib.Omega.{arith}
 use denote.Ref.{now}
-use lib.ListN.{length}
+use lib.ListN.{length, length-take}
 use Rattle.kinds.specs.Kinds.{vertexCount}
 use Rattle.descriptions.specs.Descriptions.{topologyOf}
 use Rattle.descriptions.specs.Refusals.{checkedTests}
@@ -27,51 +27,18 @@ within c =
     let count = c .vertex-count .ensures ∙ ap vertexCount (told .0) in
     subst (λ k. 3 * k ≤ length (now (a .values))) (sym count) (drawn-room (a .description) (now (a .curve)) (length (now (a .values))) written)
 
-check-requires : tie.Need-check-requires
-check-requires c κs = search needs
-
-enum-told : tie.Need-enum-told
-enum-told c = search needs
-
-enum-known-body : tie.Need-enum-known-body
-enum-known-body c = search needs
-
-write-vertices-requires : tie.Need-write-vertices-requires
-write-vertices-requires c κs = search needs
-
-vertex-count-requires : tie.Need-vertex-count-requires
-vertex-count-requires c κs = search needs
-
-mul-result : tie.Need-mul-result
-mul-result c = omega (arith, within c)
-
-same-length : tie.Need-same-length
-same-length c = search needs
-
-returns : tie.Need-returns
-returns c = omega (arith, within c)
-
-returns-2 : tie.Need-returns-2
-returns-2 c = search needs
-
-same-length-2 : tie.Need-same-length-2
-same-length-2 c = search needs
-
-returns-3 : tie.Need-returns-3
-returns-3 c = search needs
-
 pub write-body-spec : {M : Type 1} → statement M
 write-body-spec =
     tie.close
     (tie.spec
-    check-requires
-    enum-told
-    enum-known-body
-    write-vertices-requires
-    vertex-count-requires
-    mul-result
-    same-length
-    returns
-    returns-2
-    same-length-2
-    returns-3)
+    (λ c κs. search needs)
+    (λ c. search needs)
+    (λ c. search needs)
+    (λ c κs. search needs)
+    (λ c κs. search needs)
+    (λ c. omega (arith, within c))
+    (λ c. search needs)
+    (λ c. simp length-take (omega (arith, within c)))
+    (λ c. search needs)
+    (λ c. search needs)
+    (λ c. search needs))

@@ -1,4 +1,5 @@
--- Three indices a triangle are within the buffer, since a list is written only where there is room for it. Assumes nothing.
+-- Three indices a triangle are within the buffer, since a list is written only where there is
+-- room for it. Assumes nothing.
 use mathlib.Core.Path.{_≡_, sym, _∙_}
 use mathlib.Core.Bool.{Bool, true, _&&_}
 use Prim.Native.Nat.{ℕ, _+_, _*_, _^_, _≤_}
@@ -13,7 +14,8 @@ use Rattle.kinds.specs.declared.topology.Topology.{Topology}
 use Rattle.worked_lists.proofs.write_list.Statement.{statement}
 use Rattle.worked_lists.proofs.write_list.Tie as tie
 
-has-room : (t : Topology) (first room : ℕ) {n : ℕ} {r : Bool} → r ≡ writable t first room → r ≡ true → n ≡ triangleCount t → 3 * n ≤ room
+has-room : (t : Topology) (first room : ℕ) {n : ℕ} {r : Bool}
+    → r ≡ writable t first room → r ≡ true → n ≡ triangleCount t → 3 * n ≤ room
 unfolding writable
 has-room t first room answer written count =
     let numbered = leb (first + vertexCount t) (2 ^ 28) in
@@ -21,39 +23,24 @@ has-room t first room answer written count =
     let fits = both-true numbered held (both-true (permitted t) (numbered && held) (sym answer ∙ written) .1) in
     rw count (leb-true (3 * triangleCount t) room (fits .1))
 
-write-triangles-requires : tie.Need-write-triangles-requires
-write-triangles-requires c κs = search needs
-
-triangle-count-requires : tie.Need-triangle-count-requires
-triangle-count-requires c κs = search needs
-
 mul-result : tie.Need-mul-result
 mul-result c =
     let room = has-room _ _ _ (c .before .before .before .before .write-triangles .ensures .0) (c .before .if1 .taken) (c .triangle-count .ensures) in
     omega (arith, room)
-
-same-length : tie.Need-same-length
-same-length c = search needs
 
 returns : tie.Need-returns
 returns c =
     let room = has-room _ _ _ (c .before .before .before .before .write-triangles .ensures .0) (c .before .if1 .taken) (c .triangle-count .ensures) in
     simp length-take (omega (arith, room))
 
-same-length-2 : tie.Need-same-length-2
-same-length-2 c = search needs
-
-returns-2 : tie.Need-returns-2
-returns-2 c = search needs
-
 pub write-list-spec : {M : Type 1} → statement M
 write-list-spec =
     tie.close
     (tie.spec
-    write-triangles-requires
-    triangle-count-requires
+    (λ c κs. search needs)
+    (λ c κs. search needs)
     mul-result
-    same-length
+    (λ c. search needs)
     returns
-    same-length-2
-    returns-2)
+    (λ c. search needs)
+    (λ c. search needs))

@@ -1,3 +1,0 @@
-pub mod Digest
-pub mod Garbage
-pub mod Steps
