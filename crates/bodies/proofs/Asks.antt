@@ -10,7 +10,7 @@ use Rattle.descriptions.specs.Refusals.{ShapePermitted}
 use Rattle.descriptions.specs.declared.description.Description.{Description}
 use Rattle.descriptions.specs.declared.description.Description.the-variants.{Ribbon, Tube, Capsule, Torus, ClosedCylinder}
 use Rattle.descriptions.proofs.Shapes.{shape-bounds, vertices-most}
-use Rattle.bodies.specs.Swept.{CapsuleFits}
+use Rattle.swept_bodies.specs.Swept.{CapsuleFits}
 
 abbrev pub Asks : Description → ℕ → ℕ → Type 0
 Asks (Ribbon w) N room = (N ≤ 4096) × (1 ≤ N - 1) × ((N - 1 + 1) * 6 ≤ room)

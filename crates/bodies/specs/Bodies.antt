@@ -9,14 +9,15 @@ use lib.ListN.{length}
 use Rattle.kinds.specs.Kinds.{vertexCount}
 use Rattle.curve.specs.Segments.{verticesIn}
 use Rattle.descriptions.specs.Answers.{isAccepted}
-use Rattle.descriptions.specs.Descriptions.{topologyOf}
+use Rattle.descriptions.specs.Descriptions.{curveChain, segmentCount, topologyOf}
 use Rattle.descriptions.specs.Refusals.{shapeOf}
 use Rattle.descriptions.specs.declared.description.Description.{Description}
 use Rattle.descriptions.specs.declared.description.Description.the-variants.{Ribbon, Tube, Capsule, Torus, ClosedCylinder}
-use Rattle.bodies.specs.Polyline3.{ribbonVertices, tubeVertices}
-use Rattle.bodies.specs.Polyloop3.{torusVertices}
-use Rattle.bodies.specs.Capsule.{capsuleVertices}
-use Rattle.bodies.specs.ClosedCylinder.{cylinderVertices}
+use Rattle.ring_writers.specs.ClosedCylinder.{cylinderVertices}
+use Rattle.swept_bodies.specs.Polyline3.{ribbonVertices, tubeVertices}
+use Rattle.swept_bodies.specs.Polyloop3.{torusVertices}
+use Rattle.swept_bodies.specs.Capsule.{capsuleVertices}
+use Rattle.swept_bodies.specs.Tables.{Along}
 
 -- an open curve of N vertices has m = N − 1 segments
 abbrev pub verticesOf : Description → List Float → List Float
@@ -31,3 +32,7 @@ verticesOf (ClosedCylinder n S centred r l) c = cylinderVertices r l n S centred
 unfoldable pub drawable : Description → List Float → ℕ → Bool
 drawable d c room =
     eqb (length c % 3) 0 && (isAccepted (shapeOf d (verticesIn c)) && leb (3 * vertexCount (topologyOf d (verticesIn c))) room)
+
+-- the table of the directions of a body's curve
+abbrev pub AlongCurve : Description → List Float → List Float → Type 0
+AlongCurve d c table = Along (curveChain d) (segmentCount d (verticesIn c)) c table

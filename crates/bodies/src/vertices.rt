@@ -6,15 +6,15 @@ ghost use Rattle.kinds.specs.Kinds.{vertexCount};
 ghost use Rattle.descriptions.specs.Descriptions.{segmentCount, topologyOf};
 ghost use Rattle.descriptions.specs.Refusals.{ShapePermitted};
 ghost use Rattle.bodies.specs.Bodies.{verticesOf, drawable};
-ghost use Rattle.bodies.specs.Tables.{AlongCurve};
+ghost use Rattle.bodies.specs.Bodies.{AlongCurve};
 use crate::draw::draw;
-use crate::polyline3::set_vtx2xyz_for_generalized_cylinder_open_end;
-use crate::polyline3::to_trimesh3_capsule;
-use crate::polyline3::to_trimesh3_ribbon;
-use crate::polyloop3::to_trimesh3_torus;
-use crate::trimesh3_primitive::cylinder_closed_end_yup;
 use descriptions::Description;
 use descriptions::Verdict;
+use ring_writers::cylinder_closed_end_yup;
+use swept_bodies::set_vtx2xyz_for_generalized_cylinder_open_end;
+use swept_bodies::to_trimesh3_capsule;
+use swept_bodies::to_trimesh3_ribbon;
+use swept_bodies::to_trimesh3_torus;
 
 // The vertices of a body that 10, 20 and 21 permit, from the table of its curve's directions.
 pub(crate) fn fill(

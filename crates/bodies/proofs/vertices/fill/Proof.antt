@@ -10,7 +10,7 @@ use Rattle.laws.specs.Overwrite.{overwrite}
 use Rattle.descriptions.specs.Descriptions.{segmentCount}
 use Rattle.descriptions.specs.declared.description.Description.{Description}
 use Rattle.bodies.specs.Bodies.{verticesOf}
-use Rattle.bodies.specs.Tables.{AlongCurve}
+use Rattle.bodies.specs.Bodies.{AlongCurve}
 use Rattle.bodies.proofs.Asks.{Asks, asks}
 use borrow.Author.Needs.{needs}
 use Rattle.bodies.proofs.vertices.fill.Statement.{statement}

@@ -1,0 +1,14 @@
+// Rings of vertices, written to a lent buffer: the table of directions round a ring, rings, caps, and the closed cylinder, which has no curve.
+mod caps;
+mod points;
+mod ring_writer;
+mod trimesh3_primitive;
+mod turns;
+
+pub use caps::write_cap;
+pub use points::point;
+pub use points::put_point;
+pub use ring_writer::write_ring;
+pub use trimesh3_primitive::cylinder_closed_end_yup;
+pub use turns::ROUND;
+pub use turns::fill_turns;
