@@ -10,5 +10,5 @@ pub use points::point;
 pub use points::put_point;
 pub use ring_writer::write_ring;
 pub use trimesh3_primitive::cylinder_closed_end_yup;
-pub use turns::ROUND;
+pub use turns::TURN_FLOATS;
 pub use turns::fill_turns;

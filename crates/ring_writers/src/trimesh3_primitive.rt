@@ -6,7 +6,7 @@ ghost use Rattle.ring_writers.specs.Tables.{Turns};
 ghost use Rattle.ring_writers.specs.ClosedCylinder.{lowOf, cylinderRings, cylinderVertices};
 use crate::points::put_point;
 use crate::ring_writer::write_level;
-use crate::turns::ROUND;
+use crate::turns::TURN_FLOATS;
 use crate::turns::fill_turns;
 use vec3::Point;
 
@@ -55,8 +55,8 @@ pub fn cylinder_closed_end_yup(
     requires { ⌜ (n ≤ 256) × (layers ≤ 4096) × ((layers + 1) * (n * 3) + 6 ≤ length (now out)) ⌝ }
     ensures { λ _. ⌜ now (out .exit) ≡ overwrite 0 (cylinderVertices radius height n layers centred) (now (out .entry)) ⌝ }
 {
-    let mut cosines = [0.0f32; ROUND];
-    let mut sines = [0.0f32; ROUND];
+    let mut cosines = [0.0f32; TURN_FLOATS];
+    let mut sines = [0.0f32; TURN_FLOATS];
     fill_turns(n, &mut cosines, &mut sines);
     let low = low(centred, height);
     let top = 3 + (layers as usize + 1) * (n as usize * 3);

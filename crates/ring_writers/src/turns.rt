@@ -6,7 +6,7 @@ use vec3::Point;
 use vec3::turn;
 
 // Room for the directions round a ring of 256, the most that a body may have.
-pub const ROUND: usize = 768;
+pub const TURN_FLOATS: usize = 768;
 
 // The directions round a ring of n, each cosine and each sine three times: worked out once for a body.
 pub fn fill_turns(n: u16, cosines: &mut [f32], sines: &mut [f32])
