@@ -1,4 +1,5 @@
--- What each kind's writer asks, of a body that 10, 20 and 21 permit and that has room. Assumes nothing.
+-- What each kind's writer asks, of a body that 10, 20 and 21 permit and that has room. Assumes
+-- nothing.
 use mathlib.Core.Path.{_≡_, ap}
 use Prim.Native.Nat.{ℕ, _+_, _-_, _*_, _≤_}
 use native.Mathlib.Omega.{arith}

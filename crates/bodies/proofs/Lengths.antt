@@ -18,7 +18,8 @@ use Rattle.swept_bodies.proofs.Lengths.{length-ribbon, length-tube, length-caps
 use Rattle.bodies.specs.Bodies.{verticesOf, drawable}
 use Rattle.bodies.proofs.Drawable.{drawn-shape, drawn-room}
 
--- "Vertices n(S + 1) + 2" and the others: the list has three floats for each vertex that the counts promise
+-- "Vertices n(S + 1) + 2" and the others: the list has three floats for each vertex that the
+-- counts promise
 pub length-vertices : (d : Description) (c : List Float) → ShapePermitted d (verticesIn c)
     → length (verticesOf d c) ≡ 3 * vertexCount (topologyOf d (verticesIn c))
 length-vertices (Ribbon w) c h = omega (arith, length-ribbon w (verticesIn c - 1) c)

@@ -1,5 +1,6 @@
--- The vertices of a body alone: "the vertices and local triangles that this paper's definitions give its description and curve" (document 01,
--- 'The shared set'; the triangles are `trianglesOf (topologyOf ..)` of the crates kinds and descriptions). Definitions only.
+-- The vertices of a body alone: "the vertices and local triangles that this paper's definitions
+-- give its description and curve" (document 01, 'The shared set'; the triangles are `trianglesOf
+-- (topologyOf ..)` of the crates kinds and descriptions). Definitions only.
 use mathlib.Core.Bool.{Bool, _&&_}
 use mathlib.Core.List.{List}
 use Prim.Native.Nat.{ℕ, _-_, _*_, _%_}
@@ -27,8 +28,9 @@ verticesOf (Capsule n L r) c = capsuleVertices n L r (verticesIn c - 1) c
 verticesOf (Torus n r) c = torusVertices n r (verticesIn c) c
 verticesOf (ClosedCylinder n S centred r l) c = cylinderVertices r l n S centred
 
--- Whether the vertices can be written into a buffer of `room` numbers: whole vertices in the curve (10), a shape that 10, 20 and 21 do not
--- refuse, and vertices that do not "exceed their buffer" (of 3). What the floats are plays no part.
+-- Whether the vertices can be written into a buffer of `room` numbers: whole vertices in the curve
+-- (10), a shape that 10, 20 and 21 do not refuse, and vertices that do not "exceed their buffer"
+-- (of 3). What the floats are plays no part.
 unfoldable pub drawable : Description → List Float → ℕ → Bool
 drawable d c room =
     eqb (length c % 3) 0 && (isAccepted (shapeOf d (verticesIn c)) && leb (3 * vertexCount (topologyOf d (verticesIn c))) room)

@@ -1,4 +1,4 @@
-// A body alone: from a description and a curve to its vertices.
+// The vertices of one body, from its description and its curve.
 mod checked;
 mod directions;
 mod draw;

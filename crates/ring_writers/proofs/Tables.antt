@@ -1,4 +1,5 @@
--- A table of points: each of them, where it was written, and four of the directions round a ring. Assumes nothing.
+-- A table of points: each of them, where it was written, and four of the directions round a ring.
+-- Assumes nothing.
 use mathlib.Core.Path.{_≡_, refl, ap, _∙_}
 use mathlib.Core.List.{List, _++_}
 use Prim.Native.Nat.{ℕ, _+_, _*_, _≤_, _<_}

@@ -1,4 +1,5 @@
--- The rings of a capsule's cap (document 01, 'Frames and vertices'), whose vertices crates/rings/specs/Vertices.antt defines. Definitions only.
+-- The rings of a capsule's cap (document 01, 'Frames and vertices'), whose vertices
+-- crates/rings/specs/Vertices.antt defines. Definitions only.
 use mathlib.Core.List.{List}
 use Prim.Native.Nat.{ℕ}
 use lib.Ieee.{Float}

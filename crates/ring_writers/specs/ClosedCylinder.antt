@@ -1,5 +1,5 @@
--- The closed cylinder's vertices (document 01, 'Frames and vertices'), of the levels and poles that crates/rings/specs/Vertices.antt
--- defines. Definitions only.
+-- The closed cylinder's vertices (document 01, 'Frames and vertices'), of the levels and poles
+-- that crates/rings/specs/Vertices.antt defines. Definitions only.
 use mathlib.Core.Bool.{Bool, cond}
 use mathlib.Core.List.{List, _++_}
 use Prim.Native.Nat.{ℕ, _+_}

@@ -9,7 +9,8 @@ use Rattle.vec3.specs.Turns.{turnOf}
 use Rattle.curve.specs.Segments.{pointAt}
 use Rattle.rings.specs.declared.four.Four.{Four}
 
--- the directions round a ring, "(C, Sn) = turn(i, n)" (document 01, 'Frames and vertices'): each cosine, and each sine, three times
+-- the directions round a ring, "(C, Sn) = turn(i, n)" (document 01, 'Frames and vertices'): each
+-- cosine, and each sine, three times
 pub record Turns (n : ℕ) (cosines sines : List Float) : Type 0 where
   pub cosine-room : n * 3 ≤ length cosines
   pub sine-room : n * 3 ≤ length sines

@@ -9,7 +9,8 @@ use rings::Axes;
 use rings::cap_ring;
 use surface::End;
 
-// The rings of a cap, from place `at` on.
+// Writes the `longitudes` rings of a capsule's cap, `n` vertices each, from index `at` on. `axes`
+// are those at the end of the curve.
 pub fn write_cap(
     out: &mut [f32],
     at: usize,

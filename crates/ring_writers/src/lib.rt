@@ -1,4 +1,5 @@
-// Rings of vertices, written to a lent buffer: the table of directions round a ring, rings, caps, and the closed cylinder, which has no curve.
+// Writes rings of vertices to a lent buffer: single rings, the rings of a cap, and the closed
+// cylinder, which needs no curve.
 mod caps;
 mod points;
 mod ring_writer;

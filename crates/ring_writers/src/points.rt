@@ -8,6 +8,7 @@ ghost use Rattle.ring_writers.specs.Tables.{fourIn, fourCoordinates};
 use rings::Four;
 use vec3::Point;
 
+// Writes the coordinates of `p` to `out`, from index `at` on.
 pub fn put_point(out: &mut [f32], at: usize, p: Point)
     requires { ⌜ at + 3 ≤ length (now out) ⌝ }
     ensures { λ _. ⌜ now (out .exit) ≡ overwrite at (coordinates p) (now (out .entry)) ⌝ }
@@ -17,6 +18,7 @@ pub fn put_point(out: &mut [f32], at: usize, p: Point)
     out[at + 2] = p.z;
 }
 
+// Reads the point whose coordinates begin at index `k`.
 pub fn point(table: &[f32], k: usize) -> Point
     requires { ⌜ k + 3 ≤ length (now table) ⌝ }
     ensures { λ r. ⌜ r ≡ pointAt (now (table .entry)) k ⌝ }
@@ -28,6 +30,7 @@ pub fn point(table: &[f32], k: usize) -> Point
     }
 }
 
+// Writes four points one after the other, from index `at` on.
 pub(crate) fn put_four(out: &mut [f32], at: usize, q: Four)
     requires { ⌜ at + 12 ≤ length (now out) ⌝ }
     ensures { λ _. ⌜ now (out .exit) ≡ overwrite at (fourCoordinates q) (now (out .entry)) ⌝ }
@@ -38,6 +41,7 @@ pub(crate) fn put_four(out: &mut [f32], at: usize, q: Four)
     put_point(out, at + 9, q.fourth);
 }
 
+// Reads four points that stand one after the other, from index `k` on.
 pub(crate) fn four_at(table: &[f32], k: usize) -> Four
     requires { ⌜ k + 12 ≤ length (now table) ⌝ }
     ensures { λ r. ⌜ r ≡ fourIn (now (table .entry)) k ⌝ }

@@ -14,7 +14,8 @@ use rings::Ring;
 use rings::level;
 use vec3::Direction;
 
-// The first vertices of a ring of n, four at a time, from place `at` on; it answers how many.
+// Writes the first vertices of a ring of `n`, four at a time, from index `at` on, and answers how
+// many it wrote.
 fn write_fours(
     out: &mut [f32],
     at: usize,
@@ -43,7 +44,7 @@ fn write_fours(
     i
 }
 
-// The vertices of a ring of n from the vertex `from` on; the ring begins at place `at`.
+// Writes the vertices `from` to n − 1 of a ring of `n` that begins at index `at`.
 fn write_rest(
     out: &mut [f32],
     at: usize,
@@ -66,7 +67,7 @@ fn write_rest(
     }
 }
 
-// A ring of n vertices from place `at` on.
+// Writes a ring of `n` vertices from index `at` on.
 pub fn write_ring(out: &mut [f32], at: usize, ring: Ring, n: usize, cosines: &[f32], sines: &[f32])
     requires { ⌜ (at + n * 3 ≤ length (now out)) × Turns n (now cosines) (now sines) ⌝ }
     ensures { λ _. ⌜ now (out .exit) ≡ overwrite at (ringOf (ringVertex ring) n) (now (out .entry)) ⌝ }
@@ -75,7 +76,7 @@ pub fn write_ring(out: &mut [f32], at: usize, ring: Ring, n: usize, cosines: &[f
     write_rest(out, at, ring, written, n, cosines, sines);
 }
 
-// A closed cylinder's ring of n vertices at height y, from place `at` on.
+// Writes a closed cylinder's ring of `n` vertices at height `y`, from index `at` on.
 pub(crate) fn write_level(
     out: &mut [f32],
     at: usize,

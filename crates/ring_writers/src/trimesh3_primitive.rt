@@ -10,13 +10,14 @@ use crate::turns::TURN_FLOATS;
 use crate::turns::fill_turns;
 use vec3::Point;
 
+// The height of the bottom: the cylinder stands on height 0, or is centred there.
 fn low(centred: bool, height: f32) -> f32
     ensures { λ r. ⌜ r ≡ lowOf centred height ⌝ }
 {
     if centred { -height * 0.5 } else { 0.0 }
 }
 
-// The rings 0 to `layers`, each one step above the last, from place `at` on.
+// Writes the rings 0 to `layers`, from the bottom up, from index `at` on.
 fn write_levels(
     out: &mut [f32],
     at: usize,
@@ -43,7 +44,7 @@ fn write_levels(
     }
 }
 
-// The vertices of a closed cylinder, to the front of `out`.
+// Writes the vertices of a closed cylinder to the front of `out`: bottom pole, rings, top pole.
 pub fn cylinder_closed_end_yup(
     out: &mut [f32],
     radius: f32,

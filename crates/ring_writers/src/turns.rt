@@ -5,10 +5,12 @@ use crate::points::put_point;
 use vec3::Point;
 use vec3::turn;
 
-// Room for the directions round a ring of 256, the most that a body may have.
+// The length of a table of turns: a ring has at most 256 vertices, and each takes three floats.
 pub const TURN_FLOATS: usize = 768;
 
-// The directions round a ring of n, each cosine and each sine three times: worked out once for a body.
+// Fills the tables of the `n` directions round a ring. Direction i has its cosine three times,
+// from index 3i of `cosines` on, and its sine three times in `sines`, so that a vertex multiplies
+// point by point. A body fills them once, for all its rings.
 pub fn fill_turns(n: u16, cosines: &mut [f32], sines: &mut [f32])
     requires { ⌜ (n * 3 ≤ length (now cosines)) × (n * 3 ≤ length (now sines)) ⌝ }
     ensures { λ _. ⌜ Turns n (now (cosines .exit)) (now (sines .exit)) ⌝ }

@@ -1,4 +1,5 @@
--- The axes at a vertex are made of what is carried along the curve: the cases of the definitions decided. Assumes nothing.
+-- The axes at a vertex are made of what is carried along the curve: the cases of the definitions
+-- decided. Assumes nothing.
 use mathlib.Core.Path.{_≡_, refl, sym, ap, _∙_}
 use mathlib.Core.List.{List}
 use Prim.Native.Nat.{ℕ, _+_, _-_, _≤_, _<_}

@@ -1,4 +1,5 @@
--- The ring that is written round a vertex of a curve is that of the tube or of the torus. Assumes nothing.
+-- The ring that is written round a vertex of a curve is that of the tube or of the torus. Assumes
+-- nothing.
 use mathlib.Core.Path.{_≡_, refl, ap, _∙_}
 use mathlib.Core.List.{List}
 use Prim.Native.Nat.{ℕ, _*_, _≤_}
@@ -31,7 +32,7 @@ pub ring-along : (chain : Chain) (m : ℕ) (c : List Float) (r : Float) (n g : �
 ring-along chain m c r n g is at =
     side-ring chain _ r n is ∙ ap (λ (a : Axes). ringOf (sideVertex chain a r) n) at ∙ side-along chain m c r n g
 
--- the first ring, as the calls make it, and behind it those at vertices 1 to m − 1
+-- the first ring, as the calls make it, followed by those at vertices 1 to m − 1
 pub first-and-inner : (chain : Chain) (m : ℕ) (c : List Float) (r : Float) (n : ℕ) (t₀ : List Float)
     {b : Carried} {a : Axes} {k : Ring} {t t′ : List Float} → 1 ≤ m
     → b ≡ carriedOf chain m c 0 → a ≡ axesAt (vertexOf c 0) (b .frame) (b .direction) → k ≡ sideOf chain a r

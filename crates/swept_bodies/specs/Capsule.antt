@@ -1,5 +1,5 @@
--- The capsule's vertices (document 01, 'Frames and vertices'), of the poles that crates/rings/specs/Vertices.antt and the
--- caps that crates/ring_writers/specs/Caps.antt defines.
+-- The capsule's vertices (document 01, 'Frames and vertices'), of the poles that
+-- crates/rings/specs/Vertices.antt and the caps that crates/ring_writers/specs/Caps.antt defines.
 -- Definitions only.
 use mathlib.Core.List.{List, _++_}
 use Prim.Native.Nat.{ℕ, _+_, _-_}

@@ -1,5 +1,6 @@
--- Open curves (document 01, 'Frames and vertices'), under the names of polyline3.rs: the frame, ez and ey at vertex g of a curve of m
--- segments, for every g, and the ribbon and the tube made of them. Definitions only.
+-- Open curves (document 01, 'Frames and vertices'), under the names of polyline3.rs: the frame, ez
+-- and ey at vertex g of a curve of m segments, for every g, and the ribbon and the tube made of
+-- them. Definitions only.
 use mathlib.Core.Bool.{cond}
 use mathlib.Core.List.{List, _++_}
 use Prim.Native.Nat.{ℕ, _+_, _-_}
@@ -19,7 +20,8 @@ use Rattle.rings.specs.declared.axes.Axes.{Axes}
 unfoldable pub vtx2framex : ℕ → List Float → ℕ → Frame
 vtx2framex m c g = cond (eqb g m) (frameOf Open m c (m - 1)) (frameOf Open m c g)
 
--- "ez at an open curve's ends is its normalised segment, inside the normalised sum of the two normalised segments"
+-- "ez at an open curve's ends is its normalised segment, inside the normalised sum of the two
+-- normalised segments"
 unfoldable pub framez : ℕ → List Float → ℕ → Point
 framez m c g =
     cond (eqb g 0) (segmentDirection Open m c 0)

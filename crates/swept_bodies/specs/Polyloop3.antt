@@ -1,5 +1,6 @@
--- Closed curves (document 01, 'Frames and vertices'), under the names of polyloop3.rs: the frame and the axes at vertex g of a loop of N
--- vertices, for every g, and the torus made of them. Definitions only.
+-- Closed curves (document 01, 'Frames and vertices'), under the names of polyloop3.rs: the frame
+-- and the axes at vertex g of a loop of N vertices, for every g, and the torus made of them.
+-- Definitions only.
 use mathlib.Core.List.{List}
 use Prim.Native.Nat.{ℕ}
 use lib.Ieee.{Float}

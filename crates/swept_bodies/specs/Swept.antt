@@ -1,5 +1,5 @@
--- What the writers of tube, capsule and torus share: the rings at the vertices between two segments (document 01, 'Frames and vertices').
--- Definitions only.
+-- What the writers of tube, capsule and torus share: the rings at the vertices between two
+-- segments (document 01, 'Frames and vertices'). Definitions only.
 use mathlib.Core.List.{List}
 use Prim.Native.Nat.{ℕ, _+_, _-_, _*_, _≤_}
 use lib.Ieee.{Float}
@@ -18,7 +18,8 @@ sweptRing Closed count c r n g = torusRing n r count c g
 abbrev pub innerRings : Chain → ℕ → List Float → Float → ℕ → List Float
 innerRings chain count c r n = blocks (count - 1) (λ k. sweptRing chain count c r n (k + 1))
 
--- what the capsule's writer asks: a segment, a ring that the table of directions has room for, and room in the buffer
+-- what the capsule's writer asks: a segment, a ring that the table of directions has room for, and
+-- room in the buffer
 pub record CapsuleFits (m n L room : ℕ) : Type 0 where
   pub segment : 1 ≤ m
   pub ring : n ≤ 256

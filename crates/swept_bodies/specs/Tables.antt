@@ -1,5 +1,5 @@
--- The tables that the writers along one curve share: the directions of its segments, and ez at its vertices. A table has its points one
--- after the other, three floats each. Definitions only.
+-- The tables that the writers along one curve share: the directions of its segments, and ez at its
+-- vertices. A table has its points one after the other, three floats each. Definitions only.
 use mathlib.Core.Path.{_≡_}
 use mathlib.Core.List.{List}
 use Prim.Native.Nat.{ℕ, _+_, _-_, _*_, _≤_, _<_}

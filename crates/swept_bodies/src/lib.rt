@@ -1,4 +1,5 @@
-// Bodies swept along a curve, each kind written to a lent buffer by a function of the Rust's name.
+// Writes the vertices of a body that is swept along a curve to a lent buffer, each kind by a
+// function that has its name in del-msh.
 mod polyline3;
 mod polyloop3;
 mod swept;

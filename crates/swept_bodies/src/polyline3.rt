@@ -24,7 +24,8 @@ use surface::End;
 use vec3::Frame;
 use vec3::Point;
 
-// Writes the vertices of a tube along a curve of `m` segments to the front of `out`. `ez` is scratch space.
+// Writes the vertices of a tube along a curve of `m` segments to the front of `out`. `ez` is
+// scratch space.
 pub fn set_vtx2xyz_for_generalized_cylinder_open_end(
     out: &mut [f32],
     curve: &[f32],
@@ -83,7 +84,8 @@ fn write_tube(
     write_ring(out, m as usize * size, last, n as usize, cosines, sines);
 }
 
-// Writes the vertices of a capsule along a curve of `m` segments to the front of `out`. `ez` is scratch space.
+// Writes the vertices of a capsule along a curve of `m` segments to the front of `out`. `ez` is
+// scratch space.
 pub fn to_trimesh3_capsule(
     out: &mut [f32],
     curve: &[f32],
@@ -116,7 +118,8 @@ pub fn to_trimesh3_capsule(
     );
 }
 
-// Writes a capsule from its tables: the bottom pole, the bottom cap, the rings between two segments, the top cap, the top pole.
+// Writes a capsule from its tables: the bottom pole, the bottom cap, the rings between two
+// segments, the top cap, the top pole.
 fn write_capsule(
     out: &mut [f32],
     curve: &[f32],
@@ -159,7 +162,8 @@ fn write_capsule(
     put_point(out, top + cap, last.origin.add(last.ez.scale(r)));
 }
 
-// Writes the two vertices of a ribbon at one vertex `p` of the curve: `p` itself, and the one that lies `width` beside it.
+// Writes the two vertices of a ribbon at a vertex `p` of the curve: `p` itself and the one that
+// lies `width` beside it.
 fn put_pair(out: &mut [f32], at: usize, p: Point, frame: Frame, width: f32)
     requires { ⌜ at + 6 ≤ length (now out) ⌝ }
     ensures { λ _. ⌜ now (out .exit) ≡ overwrite at (ribbonPair p frame width) (now (out .entry)) ⌝ }

@@ -16,7 +16,8 @@ use ring_writers::write_ring;
 use rings::side;
 use surface::Chain;
 
-// Writes the vertices of a torus along a closed curve of `vertices` vertices to the front of `out`.
+// Writes the vertices of a torus along a closed curve of `vertices` vertices to the front of
+// `out`.
 pub fn to_trimesh3_torus(
     out: &mut [f32],
     curve: &[f32],
@@ -35,8 +36,9 @@ pub fn to_trimesh3_torus(
     write_torus(out, curve, directions, vertices, n, r, &cosines, &sines);
 }
 
-// Writes a torus from its tables: the first ring, then the others. ez at a vertex is the direction of the segment that leaves it, so the
-// table of directions is that of ez too.
+// Writes a torus from its tables: the first ring, then the others. On a torus, ez at a vertex is
+// the direction of the segment that leaves it, so the table of directions serves as the table of
+// ez.
 fn write_torus(
     out: &mut [f32],
     curve: &[f32],

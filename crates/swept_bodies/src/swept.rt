@@ -17,15 +17,17 @@ use rings::framez;
 use rings::side;
 use surface::Chain;
 
-// The axes at vertex k with ez along the segment that the frame is carried on, as at the ends of a curve.
+// The axes at vertex `k`, with ez along the segment that the frame has been carried to: at the
+// ends of an open curve, and at a loop's first vertex.
 pub(crate) fn axes_on(curve: &[f32], k: usize, carried: Carried) -> Axes
     ensures { λ r. ⌜ r ≡ axesAt (vertexOf (now (curve .entry)) k) (carried .frame) (carried .direction) ⌝ }
 {
     Axes::at(curve::vertex(curve, k), carried.frame, carried.direction)
 }
 
-// ez between each two of an open curve's segments, that at vertex k at place 3k. It stands before the rings since roots that do not wait
-// for each other, nor for a ring, take a third of the time.
+// Fills the table of ez at an open curve's vertices between two segments, the one at vertex k from
+// index 3k on. It is filled before the first ring is written, because square roots that wait
+// neither for each other nor for a ring take a third of the time.
 pub(crate) fn fill_framez(count: u16, directions: &[f32], out: &mut [f32])
     requires { ⌜ (count * 3 ≤ length (now directions)) × (count * 3 ≤ length (now out)) ⌝ }
     ensures { λ _. ⌜ FramezIn count (now (directions .entry)) (now (out .exit)) ⌝ }
@@ -45,8 +47,9 @@ pub(crate) fn fill_framez(count: u16, directions: &[f32], out: &mut [f32])
     }
 }
 
-// The rings between `count` segments, at vertices 1 to count − 1, from place `at` on; the frame is handed in on the first segment and
-// back on the last.
+// Writes the rings at the vertices 1 to count − 1, each of which lies between two of the curve's
+// `count` segments, from index `at` on. It takes the frame on the first segment and answers the
+// frame on the last.
 pub(crate) fn write_inner(
     out: &mut [f32],
     at: usize,

@@ -1,4 +1,5 @@
--- The folds of the table's front are the curve's, and the vertices are made of the table. Assumes nothing.
+-- The folds of the table's front are the curve's, and the vertices are made of the table. Assumes
+-- nothing.
 use mathlib.Core.Path.{_≡_, refl, sym, ap, _∙_}
 use mathlib.Core.Bool.{Bool, true, _&&_, _||_}
 use mathlib.Core.List.{List}

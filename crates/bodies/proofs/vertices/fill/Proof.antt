@@ -1,4 +1,5 @@
--- Each kind's writer is asked for what the body's numbers and room give, and writes its own case. Assumes nothing.
+-- Each kind's writer is asked for what the body's numbers and room give, and writes its own case.
+-- Assumes nothing.
 use mathlib.Core.Path.{_≡_, sym, ap, _∙_, subst}
 use mathlib.Core.List.{List}
 use Prim.Native.Nat.{_*_, _/_, _≤_}

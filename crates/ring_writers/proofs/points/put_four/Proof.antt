@@ -1,4 +1,4 @@
--- Four points, one behind the other, are one write. Assumes nothing.
+-- Four points, one after the other, are one write. Assumes nothing.
 use mathlib.Core.Path.{refl}
 use mathlib.Core.List.{_++_}
 use denote.Ref.{now}

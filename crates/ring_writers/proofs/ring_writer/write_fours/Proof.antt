@@ -1,4 +1,4 @@
--- Each turn of the loop writes four vertices behind the last. Assumes nothing.
+-- Each turn of the loop writes four vertices after those before. Assumes nothing.
 use mathlib.Core.Path.{_≡_, refl, sym, ap, _∙_}
 use mathlib.Core.List.{List}
 use Prim.Native.Nat.{ℕ, _+_, _*_, _-_, _≤_}

@@ -1,4 +1,4 @@
--- Each turn of the loop writes one vertex behind the last. Assumes nothing.
+-- Each turn of the loop writes one vertex after the one before. Assumes nothing.
 use mathlib.Core.Path.{_≡_, refl, sym, ap, _∙_}
 use mathlib.Core.List.{List}
 use Prim.Native.Nat.{ℕ, _+_, _*_, _-_, _≤_}
@@ -17,7 +17,7 @@ use Rattle.ring_writers.proofs.Tables.{vertex-at}
 use Rattle.ring_writers.proofs.ring_writer.write_rest.Statement.{statement}
 use Rattle.ring_writers.proofs.ring_writer.write_rest.Tie as tie
 
--- vertex j behind the first ones
+-- vertex j after the first ones
 abbrev later : Ring → ℕ → ℕ → ℕ → List Float
 later ring from n j = vertexOn (ringVertex ring) n (from + j)
 

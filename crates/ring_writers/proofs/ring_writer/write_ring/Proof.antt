@@ -1,4 +1,4 @@
--- The vertices that come in fours, and behind them the rest, are the ring. Assumes nothing.
+-- The vertices that come in fours, followed by the rest, are the ring. Assumes nothing.
 use mathlib.Core.Path.{_≡_, refl}
 use Prim.Native.Nat.{_+_, _-_}
 use native.Mathlib.Omega.{arith}

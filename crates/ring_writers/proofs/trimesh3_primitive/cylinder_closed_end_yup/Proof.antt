@@ -1,4 +1,4 @@
--- Pole, rings and pole, each written behind the last. Assumes nothing.
+-- Pole, rings and pole, each written after the one before. Assumes nothing.
 use mathlib.Core.Path.{refl}
 use mathlib.Core.List.{_++_}
 use Prim.Native.Nat.{_+_}

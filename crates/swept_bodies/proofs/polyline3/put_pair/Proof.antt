@@ -1,4 +1,4 @@
--- Two points, the second behind the first. Assumes nothing.
+-- Two points, one after the other. Assumes nothing.
 use mathlib.Core.Path.{refl, ap, _∙_}
 use mathlib.Core.List.{_++_}
 use borrow.Author.Needs.{needs}

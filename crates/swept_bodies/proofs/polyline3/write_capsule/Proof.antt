@@ -1,4 +1,5 @@
--- Pole, cap, inner rings, cap and pole, each behind the last, are the vertices of the definition. Assumes nothing.
+-- Pole, cap, inner rings, cap and pole, one after the other, are the vertices of the definition.
+-- Assumes nothing.
 use mathlib.Core.Path.{_≡_, refl, ap, _∙_}
 use mathlib.Core.List.{List, _++_}
 use Prim.Native.Nat.{ℕ, _+_, _-_, _*_, _≤_}
@@ -46,7 +47,8 @@ five-written n L r m c t₀ {low} {high} {p} {q} {t₁} {t₂} {t₃} first bott
     ∙ (λ i. overwrite 0 (coordinates ((bottom ∙ ap (λ (a : Axes). bottomPole a r) first) i) ++ (cap Bottom (first i)
     ++ (inner ++ (cap Top (last i) ++ coordinates ((top ∙ ap (λ (a : Axes). topPole a r) last) i))))) t₀)
 
--- from the first segment back to the function's start, and from the bottom cap back to the first segment
+-- from the first segment back to the function's start, and from the bottom cap back to the first
+-- segment
 abbrev entry : tie.After-first → tie.Start
 entry c = c .before .before .before .before .before .before .before .before
 

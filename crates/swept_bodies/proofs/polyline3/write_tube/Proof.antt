@@ -1,4 +1,5 @@
--- The first ring, the inner ones and the last one, each behind the last, are the rings of the definition. Assumes nothing.
+-- The first ring, the inner ones and the last one, one after the other, are the rings of the
+-- definition. Assumes nothing.
 use mathlib.Core.Path.{_≡_, sym, _∙_}
 use Prim.Native.Nat.{_+_, _-_, _*_, _≤_}
 use native.Mathlib.Nat.{zero-add}
@@ -17,7 +18,8 @@ use borrow.Author.Needs.{needs}
 use Rattle.swept_bodies.proofs.polyline3.write_tube.Statement.{statement}
 use Rattle.swept_bodies.proofs.polyline3.write_tube.Tie as tie
 
--- from the first segment back to the function's start, and from the first ring back to the first segment
+-- from the first segment back to the function's start, and from the first ring back to the first
+-- segment
 abbrev entry : tie.After-first → tie.Start
 entry c = c .before .before .before .before .before .before .before .before
 

@@ -1,4 +1,4 @@
--- The first ring and the inner ones behind it are the rings of the definition. Assumes nothing.
+-- The first ring, followed by the inner ones, makes the rings of the definition. Assumes nothing.
 use mathlib.Core.Path.{_≡_}
 use Prim.Native.Nat.{_-_, _*_}
 use native.Mathlib.Omega.{arith}
