@@ -1,4 +1,5 @@
--- What each kind's writer asks, of a body that 10, 20 and 21 permit and that has room. Assumes nothing.
+-- What each kind's writer asks, of a body that 10, 20 and 21 permit and that has room. Assumes
+-- nothing.
 use mathlib.Core.Path.{_≡_, ap}
 use Prim.Native.Nat.{ℕ, _+_, _-_, _*_, _≤_}
 use native.Mathlib.Omega.{arith}
@@ -10,7 +11,7 @@ use Rattle.descriptions.specs.Refusals.{ShapePermitted}
 use Rattle.descriptions.specs.declared.description.Description.{Description}
 use Rattle.descriptions.specs.declared.description.Description.the-variants.{Ribbon, Tube, Capsule, Torus, ClosedCylinder}
 use Rattle.descriptions.proofs.Shapes.{shape-bounds, vertices-most}
-use Rattle.bodies.specs.Swept.{CapsuleFits}
+use Rattle.swept_bodies.specs.Swept.{CapsuleFits}
 
 abbrev pub Asks : Description → ℕ → ℕ → Type 0
 Asks (Ribbon w) N room = (N ≤ 4096) × (1 ≤ N - 1) × ((N - 1 + 1) * 6 ≤ room)

@@ -1,6 +1,3 @@
 pub mod Lengths
-pub mod Table
-pub mod Along
-pub mod SideRings
 pub mod Asks
 pub mod Drawable

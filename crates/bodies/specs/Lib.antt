@@ -1,7 +1,1 @@
-pub mod Tables
-pub mod Polyline3
-pub mod Polyloop3
-pub mod Capsule
-pub mod ClosedCylinder
-pub mod Swept
 pub mod Bodies

@@ -11,15 +11,17 @@ use descriptions::Description;
 use descriptions::Refusal;
 use descriptions::Verdict;
 
-// Whether so many floats are wanted and have room.
+// Whether vertices of `size` floats are wanted and fit into `room` floats.
 fn is_placed(wanted: bool, size: u64, room: usize) -> bool
     ensures { λ r. ⌜ r ≡ wanted && leb size room ⌝ }
 {
     wanted && size <= room as u64
 }
 
-// Refusals 10, 20, 21, 22, 11, 12 and 13 of a description and its curve; where none holds and the vertices are wanted, they go to the
-// front of `out`, if it has room for them.
+// Checks a description and its curve: how many vertices the curve has (refusal 10), divisions
+// (20), longitudes or layers (21), sizes (22), a curve that is not finite (11), segments (12) and
+// folds (13), in this order. If it accepts them and the vertices are `wanted` and fit, it writes
+// them to the front of `out`.
 pub fn write_checked(
     description: Description,
     curve: &[f32],

@@ -8,7 +8,8 @@ ghost use Rattle.descriptions.specs.Refusals.{ShapePermitted};
 use descriptions::Description;
 use surface::Chain;
 
-// The directions of a permitted curve's segments, worked out once for a body; it answers how many floats they are.
+// Fills the table of the directions of a permitted curve's segments, and answers how many floats
+// they are. A body fills it once: the check for folds and the vertices both read it.
 pub(crate) fn fill_along(description: Description, curve: &[f32], directions: &mut [f32]) -> usize
     requires { ⌜ ShapePermitted description (length (now curve) / 3) ⌝ }
     requires { ⌜ segmentCount description (length (now curve) / 3) * 3 ≤ length (now directions) ⌝ }
@@ -23,7 +24,7 @@ pub(crate) fn fill_along(description: Description, curve: &[f32], directions: &m
     count as usize * 3
 }
 
-// How many segments so many vertices have.
+// How many segments a curve of `vertices` vertices has.
 fn segments(chain: Chain, vertices: usize) -> u16
     requires { ⌜ vertices ≤ 4096 ⌝ }
     ensures { λ r. ⌜ r ≡ segmentsOf chain vertices ⌝ }

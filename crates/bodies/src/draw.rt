@@ -13,10 +13,12 @@ use crate::vertices::fill;
 use descriptions::Description;
 use descriptions::MOST_DIRECTIONS;
 
-// Room for the tables of a curve of 256 vertices. A shorter table for shorter curves, since it is zeroed first.
+// The length of the smaller tables, for curves of at most 256 vertices: every table is zeroed
+// before it is filled, and a short curve should not wait for that of a long one.
 const FEW_DIRECTIONS: usize = 768;
 
-// 13, where it is asked, of a table of directions.
+// Whether the curve passes the check for folds (refusal 13): always if `lenient`, else by the
+// table of its directions.
 fn is_passed(lenient: bool, directions: &[f32]) -> bool
     ensures { λ r. ⌜ r ≡ lenient || noFoldIn (now (directions .entry)) ⌝ }
 {
@@ -26,8 +28,8 @@ fn is_passed(lenient: bool, directions: &[f32]) -> bool
     curve::has_no_fold(directions)
 }
 
-// Whether 13, where it is asked, lets the curve pass; then the vertices, where they are wanted. The directions go to a table that both read,
-// ez to another.
+// Checks the curve for folds (refusal 13) unless `lenient`, then writes the vertices if `wanted`,
+// and answers whether the check passed. `directions` and `ez` are scratch space.
 fn draw_along(
     description: Description,
     curve: &[f32],
@@ -54,7 +56,7 @@ fn draw_along(
     true
 }
 
-// The same, with tables of its own.
+// Does the same with scratch space of its own.
 pub(crate) fn draw(
     description: Description,
     curve: &[f32],

@@ -6,17 +6,18 @@ ghost use Rattle.kinds.specs.Kinds.{vertexCount};
 ghost use Rattle.descriptions.specs.Descriptions.{segmentCount, topologyOf};
 ghost use Rattle.descriptions.specs.Refusals.{ShapePermitted};
 ghost use Rattle.bodies.specs.Bodies.{verticesOf, drawable};
-ghost use Rattle.bodies.specs.Tables.{AlongCurve};
+ghost use Rattle.bodies.specs.Bodies.{AlongCurve};
 use crate::draw::draw;
-use crate::polyline3::set_vtx2xyz_for_generalized_cylinder_open_end;
-use crate::polyline3::to_trimesh3_capsule;
-use crate::polyline3::to_trimesh3_ribbon;
-use crate::polyloop3::to_trimesh3_torus;
-use crate::trimesh3_primitive::cylinder_closed_end_yup;
 use descriptions::Description;
 use descriptions::Verdict;
+use ring_writers::cylinder_closed_end_yup;
+use swept_bodies::set_vtx2xyz_for_generalized_cylinder_open_end;
+use swept_bodies::to_trimesh3_capsule;
+use swept_bodies::to_trimesh3_ribbon;
+use swept_bodies::to_trimesh3_torus;
 
-// The vertices of a body that 10, 20 and 21 permit, from the table of its curve's directions.
+// Writes the vertices of a body to the front of `out`, from the table of its curve's directions.
+// Its shape is permitted: curve vertices (refusal 10), divisions (20), longitudes or layers (21).
 pub(crate) fn fill(
     description: Description,
     curve: &[f32],
@@ -79,8 +80,10 @@ pub(crate) fn fill(
     }
 }
 
-// Writes the body's vertices to the front of `out`, whatever the floats of its sizes and its curve are. Where 10, 20 or 21 refuses it, or
-// `out` is too short, it answers false and writes nothing.
+// Writes the body's vertices to the front of `out`, whatever floats its sizes and its curve have,
+// and answers true. If its shape is refused, for its number of curve vertices (refusal 10), its
+// divisions (20) or its longitudes or layers (21), or if `out` is too short, it answers false and
+// writes nothing.
 pub fn write_vertices(description: Description, curve: &[f32], out: &mut [f32]) -> bool
     ensures { λ r. ⌜ r ≡ drawable description (now (curve .entry)) (length (now (out .entry))) ⌝ }
     ensures { λ r. ⌜ now (out .exit) ≡ placed r (verticesOf description (now (curve .entry))) (now (out .entry)) ⌝ }

@@ -18,8 +18,8 @@ use Rattle.vec3.specs.declared.turns.Direction.{Direction}
 use Rattle.kinds.specs.Lists.{closedTriangles}
 use Rattle.curve.specs.Segments.{verticesIn}
 use Rattle.rings.specs.Vertices.{bottomPole, topPole, bottomVertex, topVertex, capVertex}
-use Rattle.bodies.specs.Polyline3 as paper
-use Rattle.bodies.specs.Capsule.{capsuleVertices}
+use Rattle.swept_bodies.specs.Polyline3 as paper
+use Rattle.swept_bodies.specs.Capsule.{capsuleVertices}
 use Rattle.del_msh.specs.Arrays.{minus, Outside, read, one}
 use Rattle.del_msh.specs.DelGeoCore.{TAU, FRAC-PI-2, mul, div, cos, sin}
 use Rattle.del_msh.specs.Trimesh3Primitive.{cylinder-closed-end-yup}

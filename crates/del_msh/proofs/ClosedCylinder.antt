@@ -14,7 +14,7 @@ use Rattle.vec3.specs.declared.points.Point.{Point}
 use Rattle.vec3.specs.declared.turns.Direction.{Direction}
 use Rattle.rings.specs.Vertices.{levelAt, levelVertex, pole}
 use Rattle.kinds.specs.Lists.{closedTriangles}
-use Rattle.bodies.specs.ClosedCylinder.{lowOf, cylinderVertices}
+use Rattle.ring_writers.specs.ClosedCylinder.{lowOf, cylinderVertices}
 use Rattle.del_msh.specs.Vectors.{vec}
 use Rattle.del_msh.specs.Arrays.{Outside, minus, xyz, zero, one, zeros}
 use Rattle.del_msh.specs.DelGeoCore.{cos, sin}

@@ -19,7 +19,7 @@ use Rattle.vec3.specs.Frames.{firstFrame, transported}
 use Rattle.vec3.specs.declared.points.Point.{Point}
 use Rattle.curve.specs.Segments.{verticesIn, vertexOf, segmentOf, segmentDirection}
 use Rattle.curve.specs.Framex.{frameOf}
-use Rattle.bodies.specs.Polyline3 as paper
+use Rattle.swept_bodies.specs.Polyline3 as paper
 use Rattle.del_msh.specs.Vectors.{vec, change}
 use Rattle.del_msh.specs.Arrays.{minus, Outside, read, zeros}
 use Rattle.del_msh.specs.Polyline3 as rust

@@ -12,7 +12,7 @@ use Rattle.vec3.specs.Points.{sumOf, scaled}
 use Rattle.vec3.specs.declared.points.Point.{Point}
 use Rattle.kinds.specs.Lists.{ribbonQuad, ribbonTriangles}
 use Rattle.curve.specs.Segments.{verticesIn, vertexOf}
-use Rattle.bodies.specs.Polyline3 as paper
+use Rattle.swept_bodies.specs.Polyline3 as paper
 use Rattle.del_msh.specs.Vectors.{vec}
 use Rattle.del_msh.specs.Arrays.{Outside, zeros, zeroTriangle}
 use Rattle.del_msh.specs.Polyline3 as rust

@@ -18,7 +18,7 @@ use Rattle.curve.specs.Segments.{verticesIn, vertexOf, segmentOf, segmentDirect
 use Rattle.curve.specs.Framex.{frameOf}
 use Rattle.rings.specs.Axes.{axesAt}
 use Rattle.rings.specs.Vertices.{torusVertex}
-use Rattle.bodies.specs.Polyloop3 as paper
+use Rattle.swept_bodies.specs.Polyloop3 as paper
 use Rattle.del_msh.specs.Vectors.{vec, change}
 use Rattle.del_msh.specs.Arrays.{minus, remainder, Outside, read, zeros}
 use Rattle.del_msh.specs.DelGeoCore.{cos, sin}

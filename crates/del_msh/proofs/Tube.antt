@@ -13,7 +13,7 @@ use Rattle.vec3.specs.declared.points.Point.{Point}
 use Rattle.vec3.specs.declared.turns.Direction.{Direction}
 use Rattle.curve.specs.Segments.{verticesIn}
 use Rattle.rings.specs.Vertices.{tubeVertex}
-use Rattle.bodies.specs.Polyline3 as paper
+use Rattle.swept_bodies.specs.Polyline3 as paper
 use Rattle.del_msh.specs.Vectors.{vec}
 use Rattle.del_msh.specs.Arrays.{Outside, read, quotient, zeros}
 use Rattle.del_msh.specs.DelGeoCore.{TAU, mul, div, cos, sin}

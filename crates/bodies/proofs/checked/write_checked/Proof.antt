@@ -1,4 +1,5 @@
--- The tests before 13 refuse, or 13 does; what both let pass is written where it is wanted and has room. Assumes nothing.
+-- The tests before 13 refuse, or 13 does; what both let pass is written where it is wanted and has
+-- room. Assumes nothing.
 use mathlib.Core.Path.{_≡_, refl, sym, ap, _∙_}
 use mathlib.Core.Bool.{Bool, cond, _&&_}
 use mathlib.Core.List.{List}

@@ -1,4 +1,5 @@
--- The tables have room for the segments: a curve has no more of them than vertices. Assumes nothing.
+-- The tables have room for the segments: a curve has no more of them than vertices. Assumes
+-- nothing.
 use Prim.Native.Nat.{_/_}
 use native.Mathlib.Omega.{arith}
 use denote.Ref.{now}

@@ -1,4 +1,5 @@
--- The folds of the table's front are the curve's, and the vertices are made of the table. Assumes nothing.
+-- The folds of the table's front are the curve's, and the vertices are made of the table. Assumes
+-- nothing.
 use mathlib.Core.Path.{_≡_, refl, sym, ap, _∙_}
 use mathlib.Core.Bool.{Bool, true, _&&_, _||_}
 use mathlib.Core.List.{List}
@@ -14,7 +15,7 @@ use Rattle.curve.proofs.Table.{length-directions, filled-front, folds-in-table}
 use Rattle.descriptions.specs.Descriptions.{curveChain, segmentCount}
 use Rattle.descriptions.specs.Refusals.{curveFoldsPermitted}
 use Rattle.bodies.specs.Bodies.{verticesOf}
-use Rattle.bodies.proofs.Table.{written-along}
+use Rattle.swept_bodies.proofs.Tables.{written-along}
 use borrow.Author.Needs.{needs}
 use Rattle.bodies.proofs.draw.draw_along.Statement.{statement}
 use Rattle.bodies.proofs.draw.draw_along.Tie as tie

@@ -1,4 +1,5 @@
--- Each kind's writer is asked for what the body's numbers and room give, and writes its own case. Assumes nothing.
+-- Each kind's writer is asked for what the body's numbers and room give, and writes its own case.
+-- Assumes nothing.
 use mathlib.Core.Path.{_≡_, sym, ap, _∙_, subst}
 use mathlib.Core.List.{List}
 use Prim.Native.Nat.{_*_, _/_, _≤_}
@@ -10,7 +11,7 @@ use Rattle.laws.specs.Overwrite.{overwrite}
 use Rattle.descriptions.specs.Descriptions.{segmentCount}
 use Rattle.descriptions.specs.declared.description.Description.{Description}
 use Rattle.bodies.specs.Bodies.{verticesOf}
-use Rattle.bodies.specs.Tables.{AlongCurve}
+use Rattle.bodies.specs.Bodies.{AlongCurve}
 use Rattle.bodies.proofs.Asks.{Asks, asks}
 use borrow.Author.Needs.{needs}
 use Rattle.bodies.proofs.vertices.fill.Statement.{statement}

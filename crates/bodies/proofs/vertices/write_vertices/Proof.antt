@@ -1,4 +1,5 @@
--- A body that the shape's tests accept and that has room is filled; any other is left alone. Assumes nothing.
+-- A body that the shape's tests accept and that has room is filled; any other is left alone.
+-- Assumes nothing.
 use mathlib.Core.Path.{_≡_, refl, sym, ap, _∙_, subst}
 use mathlib.Core.Bool.{Bool, true, _&&_}
 use Prim.Native.Nat.{ℕ, _*_, _/_, _≤_, _<_}

@@ -1,0 +1,4 @@
+pub mod Lengths
+pub mod Tables
+pub mod Along
+pub mod SideRings

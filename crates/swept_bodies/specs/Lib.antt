@@ -1,0 +1,5 @@
+pub mod Tables
+pub mod Polyline3
+pub mod Polyloop3
+pub mod Capsule
+pub mod Swept
