@@ -1,0 +1,77 @@
+// Reads and writes a stretch of bytes whole, over the C library's read and write. A call that a signal interrupts is made again; where a
+// call fails, `os::errno` says why until the next one.
+ghost use Rattle.streams.specs.Filled.{FilledIn};
+ghost use lib.ListN.{length};
+
+// How far a buffer was filled.
+pub enum Filled {
+    // To its end.
+    Full,
+    // The input ended after so many bytes.
+    Ended(usize),
+    // A read failed.
+    Failed,
+}
+
+// Whether the call that answered `got` was interrupted before it moved a byte.
+fn is_interrupted(got: isize) -> bool {
+    if got >= 0 {
+        return false;
+    }
+    os::errno() == libc::EINTR
+}
+
+// One read to the front of `buf`, made again while a signal interrupts it, at most 2^64 - 1 times.
+fn read_some(fd: i32, buf: &mut [u8]) -> isize {
+    let mut got = libc::read(fd, buf);
+    let mut turns = u64::MAX;
+    while turns > 0 && is_interrupted(got) {
+        got = libc::read(fd, buf);
+        turns -= 1;
+    }
+    got
+}
+
+// One write of the front of `buf`, made again likewise.
+fn write_some(fd: i32, buf: &[u8]) -> isize {
+    let mut put = libc::write(fd, buf);
+    let mut turns = u64::MAX;
+    while turns > 0 && is_interrupted(put) {
+        put = libc::write(fd, buf);
+        turns -= 1;
+    }
+    put
+}
+
+// Reads until `buf` is full, the input ends or a read fails.
+pub fn read_full(fd: i32, buf: &mut [u8]) -> Filled
+    ensures { λ r. ⌜ FilledIn r (length (now (buf .entry))) ⌝ }
+{
+    let mut done: usize = 0;
+    while done < buf.len() {
+        let got = read_some(fd, &mut buf[done..]);
+        if got < 0 {
+            return Filled::Failed;
+        }
+        let more = io::count(got, &buf[done..]);
+        if more == 0 {
+            return Filled::Ended(done);
+        }
+        done += more;
+    }
+    Filled::Full
+}
+
+// Writes all of `buf` and answers true, or answers false at the first write that fails or takes nothing.
+pub fn write_all(fd: i32, buf: &[u8]) -> bool {
+    let mut done: usize = 0;
+    while done < buf.len() {
+        let put = write_some(fd, &buf[done..]);
+        let more = io::count(put, &buf[done..]);
+        if more == 0 {
+            return false;
+        }
+        done += more;
+    }
+    true
+}
