@@ -1,45 +1,76 @@
 ghost use mathlib.Core.Path.{_≡_};
 ghost use Prim.Native.Nat.{_≤_};
-ghost use lib.ListN.{length, take};
+ghost use lib.ListN.{length};
 ghost use Rattle.set_table.specs.Buffers.{buffers};
 ghost use Rattle.ledger.specs.Calls.{additions, clearedSet};
 ghost use Rattle.records.specs.Records.{recordWords, firstAddition};
-ghost use Rattle.sweep.specs.Input.{Fed};
+ghost use Rattle.sweep.specs.Input.{ReadAs, Fed};
+use crate::stop::Stop;
+use crate::stop::before_record;
+use crate::stop::inside_record;
+use crate::stop::report;
+use libc::STDIN_FILENO;
 use little_endian::read_words;
 use records::HEAD_WORDS;
 use records::add_first;
 use records::record_length;
 use records::record_words;
+use streams::Filled;
+use streams::read_full;
 
 // The words, and the bytes, of the longest record: a head and 512 vertices.
 const WORDS: usize = 7 + 3 * 512;
 
 const BYTES: usize = 4 * WORDS;
 
-// The next record of standard input to the front of `words`, by way of `bytes`, and its length; 0 where the input ends before it does, or it
-// has too many vertices. What it hands on is one record, whole and alone.
-fn read_record(bytes: &mut [u8], words: &mut [u32]) -> usize
+// Standard input's next record, or why there is none.
+enum Next {
+    // A record of so many words.
+    Record(usize),
+    Stop(Stop),
+}
+
+// Reads the coordinates of a record of `count` words, whose head is at the front of `bytes`, and puts the whole record at the front of
+// `words`.
+fn read_curve(count: usize, bytes: &mut [u8], words: &mut [u32]) -> Next
+    requires { ⌜ 7 ≤ count ⌝ }
+    requires { ⌜ count ≤ 1543 ⌝ }
     requires { ⌜ 6172 ≡ length (now bytes) ⌝ }
     requires { ⌜ 1543 ≡ length (now words) ⌝ }
-    ensures { λ r. ⌜ r ≤ length (now (words .exit)) ⌝ }
-    ensures { λ r. ⌜ r ≡ recordWords (take r (now (words .exit))) ⌝ }
+    ensures { λ r. ⌜ ReadAs r (now (words .exit)) ⌝ }
+{
+    let head = 4 * HEAD_WORDS;
+    let end = 4 * count;
+    let filled = read_full(STDIN_FILENO, &mut bytes[head..end]);
+    if let Filled::Full = filled {
+        read_words(&bytes[..end], words);
+        let whole = record_words(&words[..count]);
+        if whole == 0 {
+            return Next::Stop(Stop::Short);
+        }
+        return Next::Record(whole);
+    }
+    Next::Stop(inside_record(filled))
+}
+
+// Reads the next record of standard input to the front of `words`, by way of `bytes`.
+fn read_record(bytes: &mut [u8], words: &mut [u32]) -> Next
+    requires { ⌜ 6172 ≡ length (now bytes) ⌝ }
+    requires { ⌜ 1543 ≡ length (now words) ⌝ }
+    ensures { λ r. ⌜ ReadAs r (now (words .exit)) ⌝ }
 {
     let front = HEAD_WORDS;
     let head = 4 * front;
-    if io::read_full(0, &mut bytes[..head]) < head {
-        return 0;
+    let filled = read_full(STDIN_FILENO, &mut bytes[..head]);
+    if let Filled::Full = filled {
+        read_words(&bytes[..head], words);
+        let count = record_length(&words[..front]);
+        if count == 0 {
+            return Next::Stop(Stop::TooLong);
+        }
+        return read_curve(count, bytes, words);
     }
-    read_words(&bytes[..head], words);
-    let count = record_length(&words[..front]);
-    if count == 0 {
-        return 0;
-    }
-    let end = 4 * count;
-    if io::read_full(0, &mut bytes[head..end]) < end - head {
-        return 0;
-    }
-    read_words(&bytes[..end], words);
-    record_words(&words[..count])
+    Next::Stop(before_record(filled))
 }
 
 // Adds the body of one record, whole and alone.
@@ -51,8 +82,8 @@ fn add_record(words: &[u32], table: &mut [u32], vertices: &mut [f32], triangles:
     add_first(words, table, vertices, triangles);
 }
 
-// Adds the body of each record of standard input, and says how many records there were. The count ends the loop by itself, if the input
-// never does.
+// Adds the body of each record of standard input, says on standard error where the records end too early, and answers how many records
+// there were. The count ends the loop by itself, if the input never does.
 fn add_records(table: &mut [u32], vertices: &mut [f32], triangles: &mut [u32]) -> u64
     ensures { λ r. let s = buffers (now (table .entry)) (now (vertices .entry)) (now (triangles .entry)) in
         ⌜ Fed r s (buffers (now (table .exit)) (now (vertices .exit)) (now (triangles .exit))) ⌝ }
@@ -63,11 +94,15 @@ fn add_records(table: &mut [u32], vertices: &mut [f32], triangles: &mut [u32]) -
     let words: &mut [u32] = &mut room;
     let mut count: u64 = 0;
     while count < 18446744073709551615 {
-        let end = read_record(bytes, words);
-        if end == 0 {
-            return count;
+        match read_record(bytes, words) {
+            Next::Stop(why) => {
+                report(why, count + 1);
+                return count;
+            }
+            Next::Record(end) => {
+                add_record(&words[..end], table, vertices, triangles);
+            }
         }
-        add_record(&words[..end], table, vertices, triangles);
         count += 1;
     }
     count

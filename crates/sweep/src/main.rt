@@ -2,6 +2,7 @@
 // no kind, is skipped; a short one, or one of too many vertices, ends the input. Where standard output fails or is closed it ends.
 mod input;
 mod output;
+mod stop;
 
 use crate::input::collect;
 use crate::output::write_file;

@@ -4,9 +4,11 @@ ghost use lib.ListN.{length};
 ghost use Rattle.laws.specs.Overwrite.{overwrite};
 ghost use Rattle.set_table.specs.Buffers.{buffers};
 ghost use Rattle.sweep.specs.File.{fileWords, fileBytes};
+use libc::STDOUT_FILENO;
 use little_endian::write_words;
 use set_file::FileWord;
 use set_file::file_word;
+use streams::write_all;
 
 // The words, and the bytes, of the longest file: its head, 64 entries and both buffers full.
 const WORDS: usize = 4 + 6 * 64 + 12288 + 12288;
@@ -35,11 +37,15 @@ fn fill_file(table: &[u32], vertices: &[f32], triangles: &[u32], words: &mut [u3
     i
 }
 
-// Writes the set's file, whole and nothing else, to standard output: the buffers are here to say which.
+// Writes the set's file, whole and nothing else, to standard output, and closes it, since some file systems tell of a full disk only then.
+// Where this fails, a line on standard error says so. The buffers are passed only so that the contract can name the file.
 fn write_bytes(table: &[u32], vertices: &[f32], triangles: &[u32], bytes: &[u8])
     requires { ⌜ now bytes ≡ fileBytes (buffers (now table) (now vertices) (now triangles)) ⌝ }
 {
-    io::write_all(1, bytes);
+    if write_all(STDOUT_FILENO, bytes) && libc::close(STDOUT_FILENO) == 0 {
+        return;
+    }
+    os::fail(b"sweep: the set could not be written whole; what was written is not a set");
 }
 
 // Writes the set's file to standard output, by way of `words` and `bytes`, which have room for the longest.

@@ -1,0 +1,64 @@
+use libc::STDERR_FILENO;
+use streams::Filled;
+use streams::write_all;
+
+// Why the reading of records stops.
+pub(crate) enum Stop {
+    // The input ends where a record would begin.
+    End,
+    // The input ends inside a record.
+    Short,
+    // A record names more than 512 curve vertices.
+    TooLong,
+    // A read failed.
+    Failed,
+}
+
+// Why a record's head is not whole.
+pub(crate) fn before_record(filled: Filled) -> Stop {
+    match filled {
+        Filled::Full => Stop::End,
+        Filled::Ended(count) => {
+            if count == 0 {
+                return Stop::End;
+            }
+            Stop::Short
+        }
+        Filled::Failed => Stop::Failed,
+    }
+}
+
+// Why a record whose head is whole is not.
+pub(crate) fn inside_record(filled: Filled) -> Stop {
+    match filled {
+        Filled::Failed => Stop::Failed,
+        Filled::Full => Stop::Short,
+        Filled::Ended(_) => Stop::Short,
+    }
+}
+
+// Writes a line on what is wrong with a record to standard error.
+fn say(record: u64, what: &[u8]) {
+    write_all(STDERR_FILENO, b"sweep: record ");
+    io::print_decimal(STDERR_FILENO, record);
+    write_all(STDERR_FILENO, what);
+    write_all(STDERR_FILENO, b"; the set has only the records before it\n");
+}
+
+// Says on standard error why there is no record of this number, counted from 1, unless the input ends in front of it.
+pub(crate) fn report(why: Stop, record: u64) {
+    match why {
+        Stop::End => {}
+        Stop::Short => {
+            say(record, b" is cut short by the end of the input");
+        }
+        Stop::TooLong => {
+            say(record, b" names more than 512 curve vertices");
+        }
+        Stop::Failed => {
+            os::fail(
+                b"sweep: standard input could not be read; the set has only the records before that",
+            );
+        }
+    }
+}
