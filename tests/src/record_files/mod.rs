@@ -5,6 +5,7 @@ mod entries;
 mod exact;
 mod example_c;
 mod harness;
+mod mixed;
 mod refusals;
 mod sample;
 
@@ -20,11 +21,15 @@ use std::path::{Path, PathBuf};
 /// The example of the README.
 pub const EXAMPLE: &str = "harness";
 
+/// What the gate runs `sweep` on: crates/sweep has it as its input.
+pub const GATE: &str = "mixed";
+
 /// A file's name, and what makes its bytes.
 pub type RecordFile = (&'static str, fn() -> Vec<u8>);
 
-pub const FILES: [RecordFile; 12] = [
+pub const FILES: [RecordFile; 13] = [
     ("sample", sample::file),
+    (GATE, mixed::file),
     (EXAMPLE, harness::file),
     ("example_c", example_c::file),
     ("refusals", refusals::file),

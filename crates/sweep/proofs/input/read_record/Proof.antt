@@ -1,100 +1,73 @@
-use lib.ListN.{length-take, length-drop, length-append}
+-- A head that names a record names one that both buffers have room for. Assumes nothing.
 use native.Mathlib.Omega.{arith}
-use Rattle.records.proofs.Lengths.{named-bounds}
 use borrow.Author.Needs.{needs}
+use lib.ListN.{length-take, length-drop, length-append}
+use Rattle.records.proofs.Lengths.{named-bounds}
 use Rattle.sweep.proofs.input.read_record.Statement.{statement}
 use Rattle.sweep.proofs.input.read_record.Tie as tie
-use Rattle.sweep.proofs.input.read_record.Reads as reads
-use Rattle.sweep.proofs.input.read_record.Lts as lts
-use Rattle.little_endian.proofs.read_words.Reads as read-words-reads
-use Rattle.records.proofs.record_length.Reads as record-length-reads
-use Rattle.streams.proofs.read_full.Reads as read-full-reads
-use Rattle.sweep.proofs.input.read_curve.Reads as read-curve-reads
-use Rattle.sweep.proofs.stop.before_record.Reads as before-record-reads
 
--- src/input.rt:63:16
 mul-head : tie.Need-mul-head
 mul-head c = search needs
 
--- src/input.rt:64:42
 slice-relend-prefix-read-full : tie.Need-slice-relend-prefix-read-full
 slice-relend-prefix-read-full c = search needs
 
--- src/input.rt:64:42
 slice-aggregate-read-full : tie.Need-slice-aggregate-read-full
 slice-aggregate-read-full c = simp length-take (omega arith)
 
--- src/input.rt:64:9
 read-full-requires : tie.Need-read-full-requires
 read-full-requires c κs = search needs
 
--- src/input.rt:66:20
 enum-told : tie.Need-enum-told
 enum-told c = search needs
 
--- src/input.rt:66:20
 slice-reshare-prefix-read-words : tie.Need-slice-reshare-prefix-read-words
 slice-reshare-prefix-read-words c = search needs
 
--- src/input.rt:66:20
 slice-aggregate-read-words : tie.Need-slice-aggregate-read-words
 slice-aggregate-read-words c = simp (length-take, length-append, length-drop) (omega arith)
 
--- src/input.rt:66:9
 read-words-requires : tie.Need-read-words-requires
 read-words-requires c κs = search needs
 
--- src/input.rt:67:35
 slice-reshare-prefix-record-length : tie.Need-slice-reshare-prefix-record-length
 slice-reshare-prefix-record-length c = search needs
 
--- src/input.rt:67:35
 slice-aggregate-record-length : tie.Need-slice-aggregate-record-length
 slice-aggregate-record-length c = simp length-take (omega arith)
 
--- src/input.rt:67:13
 record-length-requires : tie.Need-record-length-requires
 record-length-requires c κs = search needs
 
--- src/input.rt:69:13
 same-length : tie.Need-same-length
 same-length c = search needs
 
--- src/input.rt:69:13
 same-length-2 : tie.Need-same-length-2
 same-length-2 c = search needs
 
--- src/input.rt:69:13
 returns : tie.Need-returns
 returns c = search needs
 
--- src/input.rt:71:9
 read-curve-requires : tie.Need-read-curve-requires
 read-curve-requires c κs =
     let b = named-bounds _ (c .before .before .before .record-length .ensures) (c .before .before .if1 .left) in
     (b .0, (b .1, (search needs, omega arith)))
 
--- src/input.rt:71:9
 same-length-3 : tie.Need-same-length-3
 same-length-3 c = search needs
 
--- src/input.rt:71:9
 same-length-4 : tie.Need-same-length-4
 same-length-4 c = search needs
 
--- src/input.rt:71:9
 returns-2 : tie.Need-returns-2
 returns-2 c = search needs
 
--- src/input.rt:73:16
 before-record-requires : tie.Need-before-record-requires
 before-record-requires c κs = search needs
 
--- src/input.rt:57:1
 same-length-5 : tie.Need-same-length-5
 same-length-5 c = search needs
 
--- src/input.rt:57:1
 returns-3 : tie.Need-returns-3
 returns-3 c = search needs
 
