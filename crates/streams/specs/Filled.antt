@@ -1,4 +1,5 @@
--- What `Filled` says of a buffer of so many bytes. Which bytes were read no contract can say. Definitions only.
+-- What `Filled` says of a buffer of so many bytes. Which bytes were read no contract can say.
+-- Definitions only.
 use Prim.Native.Nat.{ℕ, _<_}
 use Rattle.streams.specs.declared.Filled.{Filled}
 use Rattle.streams.specs.declared.Filled.the-variants.{Full, Ended, Failed}

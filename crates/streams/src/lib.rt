@@ -1,5 +1,6 @@
-// Reads and writes a stretch of bytes whole, over the C library's read and write. A call that a signal interrupts is made again; where a
-// call fails, `os::errno` says why until the next one.
+// Fills a buffer from a stream and writes a buffer to one, over the C library's read and write. A
+// call that a signal interrupts is made again. Where a call fails, `os::errno` says why until the
+// next one.
 ghost use Rattle.streams.specs.Filled.{FilledIn};
 ghost use lib.ListN.{length};
 
@@ -13,7 +14,7 @@ pub enum Filled {
     Failed,
 }
 
-// Whether the call that answered `got` was interrupted before it moved a byte.
+// Whether a signal interrupted the call that answered `got` before it moved a byte.
 fn is_interrupted(got: isize) -> bool {
     if got >= 0 {
         return false;
@@ -21,7 +22,8 @@ fn is_interrupted(got: isize) -> bool {
     os::errno() == libc::EINTR
 }
 
-// One read to the front of `buf`, made again while a signal interrupts it, at most 2^64 - 1 times.
+// Reads once to the front of `buf`, again after each interruption. The count ends the loop if the
+// interruptions never do.
 fn read_some(fd: i32, buf: &mut [u8]) -> isize {
     let mut got = libc::read(fd, buf);
     let mut turns = u64::MAX;
@@ -32,7 +34,7 @@ fn read_some(fd: i32, buf: &mut [u8]) -> isize {
     got
 }
 
-// One write of the front of `buf`, made again likewise.
+// Writes once from the front of `buf`, again after each interruption.
 fn write_some(fd: i32, buf: &[u8]) -> isize {
     let mut put = libc::write(fd, buf);
     let mut turns = u64::MAX;
@@ -62,7 +64,8 @@ pub fn read_full(fd: i32, buf: &mut [u8]) -> Filled
     Filled::Full
 }
 
-// Writes all of `buf` and answers true, or answers false at the first write that fails or takes nothing.
+// Writes all of `buf` and answers true. Answers false at the first write that fails or takes
+// nothing, when some of `buf` may have been written.
 pub fn write_all(fd: i32, buf: &[u8]) -> bool {
     let mut done: usize = 0;
     while done < buf.len() {

@@ -1,6 +1,8 @@
--- What is made of standard input: "reads records of such words from standard input .. skips refused records and kinds outside 1 to 5, stops at a
--- short record or a curve count over 512" (document 01, 'The shared set'). Which records the input holds no contract can say; that the buffers
--- are what the additions of whole records leave, as many as were counted, and that nothing else is done to them, it can. Definitions only.
+-- What is made of standard input: "reads records of such words from standard input .. skips
+-- refused records and kinds outside 1 to 5, stops at a short record or a curve count over 512"
+-- (document 01, 'The shared set'). Which records the input holds no contract can say; that the
+-- buffers are what the additions of whole records leave, as many as were counted, and that nothing
+-- else is done to them, it can. Definitions only.
 use mathlib.Core.Path.{_≡_}
 use mathlib.Core.List.{List, [], _++_}
 use Prim.Native.Nat.{ℕ, _+_, _≤_, _<_}
@@ -12,7 +14,8 @@ use Rattle.records.specs.Records.{recordWords, firstAddition}
 use Rattle.sweep.specs.declared.input.Next.{Next}
 use Rattle.sweep.specs.declared.input.Next.the-variants.{Record, Stop}
 
--- what a read of the next record says of the words: a record of so many is at their front, whole and alone
+-- what a read of the next record says of the words: a record of so many is at their front, whole
+-- and alone
 abbrev pub ReadAs : Next → List ℕ → Type 0
 ReadAs (Record count) words = (0 < count) × (count ≤ length words) × (count ≡ recordWords (take count words))
 ReadAs (Stop why) words = Unit

@@ -6,8 +6,6 @@ ghost use Rattle.ledger.specs.Calls.{additions, clearedSet};
 ghost use Rattle.records.specs.Records.{recordWords, firstAddition};
 ghost use Rattle.sweep.specs.Input.{ReadAs, Fed};
 use crate::stop::Stop;
-use crate::stop::before_record;
-use crate::stop::inside_record;
 use crate::stop::report;
 use libc::STDIN_FILENO;
 use little_endian::read_words;
@@ -18,20 +16,21 @@ use records::record_words;
 use streams::Filled;
 use streams::read_full;
 
-// The words, and the bytes, of the longest record: a head and 512 vertices.
+// The words of the longest record: a head and 512 vertices.
 const WORDS: usize = 7 + 3 * 512;
 
 const BYTES: usize = 4 * WORDS;
 
-// Standard input's next record, or why there is none.
+// What a read of the next record finds.
 enum Next {
     // A record of so many words.
     Record(usize),
+    // No record, and why.
     Stop(Stop),
 }
 
-// Reads the coordinates of a record of `count` words, whose head is at the front of `bytes`, and puts the whole record at the front of
-// `words`.
+// Reads the coordinates of a record of `count` words, whose head `bytes` begins with, and puts the
+// whole record at the front of `words`.
 fn read_curve(count: usize, bytes: &mut [u8], words: &mut [u32]) -> Next
     requires { ⌜ 7 ≤ count ⌝ }
     requires { ⌜ count ≤ 1543 ⌝ }
@@ -41,16 +40,19 @@ fn read_curve(count: usize, bytes: &mut [u8], words: &mut [u32]) -> Next
 {
     let head = 4 * HEAD_WORDS;
     let end = 4 * count;
-    let filled = read_full(STDIN_FILENO, &mut bytes[head..end]);
-    if let Filled::Full = filled {
-        read_words(&bytes[..end], words);
-        let whole = record_words(&words[..count]);
-        if whole == 0 {
-            return Next::Stop(Stop::Short);
+    match read_full(STDIN_FILENO, &mut bytes[head..end]) {
+        Filled::Failed => Next::Stop(Stop::Failed),
+        Filled::Ended(_) => Next::Stop(Stop::Short),
+        Filled::Full => {
+            read_words(&bytes[..end], words);
+            // Asked of the words as they now stand, so that the contract can speak of them.
+            let whole = record_words(&words[..count]);
+            if whole == 0 {
+                return Next::Stop(Stop::Short);
+            }
+            Next::Record(whole)
         }
-        return Next::Record(whole);
     }
-    Next::Stop(inside_record(filled))
 }
 
 // Reads the next record of standard input to the front of `words`, by way of `bytes`.
@@ -61,16 +63,23 @@ fn read_record(bytes: &mut [u8], words: &mut [u32]) -> Next
 {
     let front = HEAD_WORDS;
     let head = 4 * front;
-    let filled = read_full(STDIN_FILENO, &mut bytes[..head]);
-    if let Filled::Full = filled {
-        read_words(&bytes[..head], words);
-        let count = record_length(&words[..front]);
-        if count == 0 {
-            return Next::Stop(Stop::TooLong);
+    match read_full(STDIN_FILENO, &mut bytes[..head]) {
+        Filled::Failed => Next::Stop(Stop::Failed),
+        Filled::Ended(done) => {
+            if done == 0 {
+                return Next::Stop(Stop::End);
+            }
+            Next::Stop(Stop::Short)
         }
-        return read_curve(count, bytes, words);
+        Filled::Full => {
+            read_words(&bytes[..head], words);
+            let count = record_length(&words[..front]);
+            if count == 0 {
+                return Next::Stop(Stop::TooLong);
+            }
+            read_curve(count, bytes, words)
+        }
     }
-    Next::Stop(before_record(filled))
 }
 
 // Adds the body of one record, whole and alone.
@@ -82,8 +91,9 @@ fn add_record(words: &[u32], table: &mut [u32], vertices: &mut [f32], triangles:
     add_first(words, table, vertices, triangles);
 }
 
-// Adds the body of each record of standard input, says on standard error where the records end too early, and answers how many records
-// there were. The count ends the loop by itself, if the input never does.
+// Adds the body of each record of standard input and answers how many records there were. Says on
+// standard error why it stopped, unless the input ended after the last record. The count ends the
+// loop if the input never does.
 fn add_records(table: &mut [u32], vertices: &mut [f32], triangles: &mut [u32]) -> u64
     ensures { λ r. let s = buffers (now (table .entry)) (now (vertices .entry)) (now (triangles .entry)) in
         ⌜ Fed r s (buffers (now (table .exit)) (now (vertices .exit)) (now (triangles .exit))) ⌝ }

@@ -10,12 +10,12 @@ use set_file::FileWord;
 use set_file::file_word;
 use streams::write_all;
 
-// The words, and the bytes, of the longest file: its head, 64 entries and both buffers full.
+// The words of the longest file: its head, 64 entries and both buffers full.
 const WORDS: usize = 4 + 6 * 64 + 12288 + 12288;
 
 const BYTES: usize = 4 * WORDS;
 
-// The file's words to the front of `words`, as many as it has room for, and how many they are.
+// Writes the file's words to the front of `words`, as many as fit, and answers how many these are.
 fn fill_file(table: &[u32], vertices: &[f32], triangles: &[u32], words: &mut [u32]) -> usize
     ensures { λ r. let file = fileWords (buffers (now (table .entry)) (now (vertices .entry)) (now (triangles .entry))) in
         ⌜ r ≡ min (length file) (length (now (words .entry))) ⌝ }
@@ -37,8 +37,9 @@ fn fill_file(table: &[u32], vertices: &[f32], triangles: &[u32], words: &mut [u3
     i
 }
 
-// Writes the set's file, whole and nothing else, to standard output, and closes it, since some file systems tell of a full disk only then.
-// Where this fails, a line on standard error says so. The buffers are passed only so that the contract can name the file.
+// Writes the set's file, whole and nothing else, to standard output, and closes it: some file
+// systems tell of a full disk only then. Says on standard error where this fails. The buffers are
+// passed only so that the contract can name the file.
 fn write_bytes(table: &[u32], vertices: &[f32], triangles: &[u32], bytes: &[u8])
     requires { ⌜ now bytes ≡ fileBytes (buffers (now table) (now vertices) (now triangles)) ⌝ }
 {
@@ -48,7 +49,8 @@ fn write_bytes(table: &[u32], vertices: &[f32], triangles: &[u32], bytes: &[u8])
     os::fail(b"sweep: the set could not be written whole; what was written is not a set");
 }
 
-// Writes the set's file to standard output, by way of `words` and `bytes`, which have room for the longest.
+// Writes the set's file to standard output, by way of `words` and `bytes`, in which the longest
+// fits.
 fn write_through(
     table: &[u32],
     vertices: &[f32],
@@ -68,7 +70,7 @@ fn write_through(
     write_bytes(table, vertices, triangles, &bytes[..end]);
 }
 
-// Writes the set's file to standard output, until it is whole or the output fails.
+// Writes the set's file to standard output.
 pub(crate) fn write_file(table: &[u32], vertices: &[f32], triangles: &[u32])
     requires { ⌜ 385 ≡ length (now table) ⌝ }
     requires { ⌜ 12288 ≡ length (now vertices) ⌝ }

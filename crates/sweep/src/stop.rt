@@ -1,5 +1,4 @@
 use libc::STDERR_FILENO;
-use streams::Filled;
 use streams::write_all;
 
 // Why the reading of records stops.
@@ -14,30 +13,8 @@ pub(crate) enum Stop {
     Failed,
 }
 
-// Why a record's head is not whole.
-pub(crate) fn before_record(filled: Filled) -> Stop {
-    match filled {
-        Filled::Full => Stop::End,
-        Filled::Ended(count) => {
-            if count == 0 {
-                return Stop::End;
-            }
-            Stop::Short
-        }
-        Filled::Failed => Stop::Failed,
-    }
-}
-
-// Why a record whose head is whole is not.
-pub(crate) fn inside_record(filled: Filled) -> Stop {
-    match filled {
-        Filled::Failed => Stop::Failed,
-        Filled::Full => Stop::Short,
-        Filled::Ended(_) => Stop::Short,
-    }
-}
-
-// Writes a line on what is wrong with a record to standard error.
+// Writes a line to standard error: which record is at fault, what is wrong with it, and what is
+// kept.
 fn say(record: u64, what: &[u8]) {
     write_all(STDERR_FILENO, b"sweep: record ");
     io::print_decimal(STDERR_FILENO, record);
@@ -45,7 +22,8 @@ fn say(record: u64, what: &[u8]) {
     write_all(STDERR_FILENO, b"; the set has only the records before it\n");
 }
 
-// Says on standard error why there is no record of this number, counted from 1, unless the input ends in front of it.
+// Says on standard error why there is no record of this number, counted from 1. Where the input
+// ended after the last record, it says nothing.
 pub(crate) fn report(why: Stop, record: u64) {
     match why {
         Stop::End => {}

@@ -27,6 +27,12 @@ read-full-requires c κs = search needs
 enum-told : tie.Need-enum-told
 enum-told c = search needs
 
+enum-told-2 : tie.Need-enum-told-2
+enum-told-2 c = search needs
+
+enum-told-3 : tie.Need-enum-told-3
+enum-told-3 c = search needs
+
 slice-reshare-prefix-read-words : tie.Need-slice-reshare-prefix-read-words
 slice-reshare-prefix-read-words c = search needs
 
@@ -57,23 +63,26 @@ returns c = search needs
 same-length-3 : tie.Need-same-length-3
 same-length-3 c = search needs
 
+returns-2 : tie.Need-returns-2
+returns-2 c = search needs
+
 same-length-4 : tie.Need-same-length-4
 same-length-4 c = search needs
 
-returns-2 : tie.Need-returns-2
-returns-2 c =
-    let start = c .before .before .before .before .before .before .before .before .before .before .before .before .before .before .before .before in
-    let alone = first-alone (start .args .count) _ (c .before .record-words .ensures) in
-    (omega arith, alone .0, alone .1)
-
-inside-record-requires : tie.Need-inside-record-requires
-inside-record-requires c κs = search needs
+returns-3 : tie.Need-returns-3
+returns-3 c = search needs
 
 same-length-5 : tie.Need-same-length-5
 same-length-5 c = search needs
 
-returns-3 : tie.Need-returns-3
-returns-3 c = search needs
+same-length-6 : tie.Need-same-length-6
+same-length-6 c = search needs
+
+returns-4 : tie.Need-returns-4
+returns-4 c =
+    let start = c .before .before .before .before .before .before .before .before .before .before .before .before .before .before .before .before in
+    let alone = first-alone (start .args .count) _ (c .before .record-words .ensures) in
+    (omega arith, alone .0, alone .1)
 
 pub read-curve-spec : {M : Type 1} → statement M
 read-curve-spec =
@@ -86,6 +95,8 @@ read-curve-spec =
     part-read-full-end
     read-full-requires
     enum-told
+    enum-told-2
+    enum-told-3
     slice-reshare-prefix-read-words
     slice-aggregate-read-words
     read-words-requires
@@ -96,8 +107,9 @@ read-curve-spec =
     same-length-2
     returns
     same-length-3
-    same-length-4
     returns-2
-    inside-record-requires
+    same-length-4
+    returns-3
     same-length-5
-    returns-3)
+    same-length-6
+    returns-4)
