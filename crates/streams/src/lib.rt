@@ -1,6 +1,13 @@
-// Fills a buffer from a stream and writes a buffer to one, over the C library's read and write. A
-// call that a signal interrupts is made again. Where a call fails, `os::errno` says why until the
-// next one.
+// Reads a stream and writes one, over the C library's read and write: bytes, until a buffer is full or
+// empty, and records. A call that a signal interrupts is made again. Where a call fails, `os::errno`
+// says why until the next one.
+mod record;
+
+pub use record::Next;
+pub use record::RECORD_BYTES;
+pub use record::RECORD_WORDS;
+pub use record::Stop;
+pub use record::read_record;
 ghost use Rattle.streams.specs.Filled.{FilledIn};
 ghost use lib.ListN.{length};
 

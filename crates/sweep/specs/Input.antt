@@ -5,20 +5,12 @@
 -- else is done to them, it can. Definitions only.
 use mathlib.Core.Path.{_≡_}
 use mathlib.Core.List.{List, [], _++_}
-use Prim.Native.Nat.{ℕ, _+_, _≤_, _<_}
-use lib.ListN.{length, take}
+use Prim.Native.Nat.{ℕ, _+_}
+use lib.ListN.{length}
 use Rattle.set_table.specs.Buffers.{Buffers}
 use Rattle.ledger.specs.Ledger.{Addition}
 use Rattle.ledger.specs.Calls.{additions}
 use Rattle.records.specs.Records.{recordWords, firstAddition}
-use Rattle.sweep.specs.declared.input.Next.{Next}
-use Rattle.sweep.specs.declared.input.Next.the-variants.{Record, Stop}
-
--- what a read of the next record says of the words: a record of so many is at their front, whole
--- and alone
-abbrev pub ReadAs : Next → List ℕ → Type 0
-ReadAs (Record count) words = (0 < count) × (count ≤ length words) × (count ≡ recordWords (take count words))
-ReadAs (Stop why) words = Unit
 
 -- a list of records, each by its words; it grows at its end
 pub data Records : Type 0 where

@@ -9,7 +9,7 @@
 // other; a pipe that nobody reads any more ends the program by the system's signal.
 mod input;
 mod output;
-mod stop;
+mod report;
 
 use crate::input::collect;
 use crate::output::write_file;

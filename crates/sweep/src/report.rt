@@ -1,17 +1,6 @@
 use libc::STDERR_FILENO;
+use streams::Stop;
 use streams::write_all;
-
-// Why the reading of records stops.
-pub(crate) enum Stop {
-    // The input ends where a record would begin.
-    End,
-    // The input ends inside a record.
-    Short,
-    // A record names more than 512 curve vertices.
-    TooLong,
-    // A read failed.
-    Failed,
-}
 
 // Writes a line to standard error: which record is at fault, what is wrong with it, and what is
 // kept.

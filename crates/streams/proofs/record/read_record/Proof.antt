@@ -3,8 +3,8 @@ use native.Mathlib.Omega.{arith}
 use borrow.Author.Needs.{needs}
 use lib.ListN.{length-take, length-drop, length-append}
 use Rattle.records.proofs.Lengths.{named-bounds}
-use Rattle.sweep.proofs.input.read_record.Statement.{statement}
-use Rattle.sweep.proofs.input.read_record.Tie as tie
+use Rattle.streams.proofs.record.read_record.Statement.{statement}
+use Rattle.streams.proofs.record.read_record.Tie as tie
 
 mul-head : tie.Need-mul-head
 mul-head c = search needs
