@@ -1,11 +1,7 @@
 //! The proved program `sweep`, byte for byte beside the stored files, however its input comes; what it then says on
 //! standard error; and the stored files beside what makes them.
 
-use std::{
-    fs::{self, File},
-    process::Stdio,
-    time::Duration,
-};
+use std::{fs::File, process::Stdio, time::Duration};
 use togbefulo_tests::{
     met::Met,
     paper::{
@@ -14,7 +10,7 @@ use togbefulo_tests::{
         records,
     },
     program::{feed, run, start, Run},
-    record_files::{self, EXAMPLE, FILES, GATE},
+    record_files::{self, read_stored as stored, EXAMPLE, FILES, GATE},
     sweep,
 };
 
@@ -29,13 +25,6 @@ fn compare(run: &Run, input: &[u8], set: &[u8], what: &str) {
     assert!(run.written == set, "{what}");
     assert_eq!(run.said, sweep::complaint(input), "{what}");
     assert!(run.status.success(), "{what}: {}", run.status);
-}
-
-fn stored(name: &str) -> [Vec<u8>; 2] {
-    record_files::stored(name).map(|path| {
-        let bytes = fs::read(&path);
-        bytes.unwrap_or_else(|why| panic!("{}: {why}", path.display()))
-    })
 }
 
 #[test]

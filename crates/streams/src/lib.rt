@@ -77,11 +77,11 @@ pub fn write_all(fd: i32, buf: &[u8]) -> bool {
     let mut done: usize = 0;
     while done < buf.len() {
         let put = write_some(fd, &buf[done..]);
-        let more = io::count(put, &buf[done..]);
-        if more == 0 {
+        let taken = io::count(put, &buf[done..]);
+        if taken == 0 {
             return false;
         }
-        done += more;
+        done += taken;
     }
     true
 }

@@ -16,7 +16,10 @@ use crate::{
     },
     sweep,
 };
-use std::path::{Path, PathBuf};
+use std::{
+    fs,
+    path::{Path, PathBuf},
+};
 
 /// The example of the README.
 pub const EXAMPLE: &str = "harness";
@@ -57,6 +60,14 @@ pub fn stored(name: &str) -> [PathBuf; 2] {
         _ => tests.join("records"),
     };
     ["records", "set"].map(|ending| folder.join(name).with_extension(ending))
+}
+
+/// The bytes of both.
+pub fn read_stored(name: &str) -> [Vec<u8>; 2] {
+    stored(name).map(|path| {
+        let bytes = fs::read(&path);
+        bytes.unwrap_or_else(|why| panic!("{}: {why}", path.display()))
+    })
 }
 
 /// A record of this kind; what a kind lacks is 0.

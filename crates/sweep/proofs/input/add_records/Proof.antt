@@ -7,7 +7,7 @@ use lib.ListN.{length}
 use lib.Seq.{length-take-le}
 use Rattle.set_table.specs.Buffers.{buffers}
 use Rattle.sweep.specs.Input.{Fed}
-use Rattle.sweep.proofs.Fed.{read-whole, fed-none, fed-next}
+use Rattle.sweep.proofs.Fed.{read-whole, read-some, fed-none, fed-next}
 use Rattle.sweep.proofs.input.add_records.Statement.{statement}
 use Rattle.sweep.proofs.input.add_records.Tie as tie
 
@@ -80,7 +80,8 @@ loop-again c =
     let read = known .before .before .before .before .before .before in
     let l = read .before .before .before .before .loop in
     let found = rw (known .end .given .1) at (read .read-record .ensures) in
-    let fed = fed-next _ (l .inv .5) (read-whole _ _ (found .1) (found .2)) (added .add-record .ensures) in
+    let some = read-some _ _ (found .0) (found .1) in
+    let fed = fed-next _ (l .inv .5) some (read-whole _ _ (found .1) (found .2)) (added .add-record .ensures) in
     (omega arith, omega arith, omega arith, omega arith, omega arith, fed)
 
 same-length-4 : tie.Need-same-length-4 Inv-loop μ-loop
