@@ -19,6 +19,7 @@ pub mod met;
 pub mod optimised;
 pub mod paper;
 pub mod patterns;
+pub mod program;
 pub mod readings;
 pub mod record_files;
 pub mod root_comparison;

@@ -34,6 +34,21 @@ fn file(words: &[u32]) -> Vec<u32> {
     file
 }
 
+/// What the program says of this input on standard error: nothing, unless bytes are left after the last record that is
+/// read. Document 01 leaves this open; docs/DECISIONS.md has it.
+pub fn complaint(input: &[u8]) -> String {
+    let records = records::read(&words(input));
+    let lengths = records.iter().map(|record| 4 * (7 + record.curve.len()));
+    let rest = &input[lengths.sum::<usize>()..];
+    let what = match words(rest).get(6) {
+        _ if rest.is_empty() => return String::new(),
+        Some(513..) => "names more than 512 curve vertices",
+        _ => "is cut short by the end of the input",
+    };
+    let number = records.len() + 1;
+    format!("sweep: record {number} {what}; the set has only the records before it\n")
+}
+
 /// Little-endian words; bytes past the last whole word are left out.
 pub fn words(bytes: &[u8]) -> Vec<u32> {
     let words = bytes.as_chunks().0.iter();

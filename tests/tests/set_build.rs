@@ -1,6 +1,5 @@
 //! Whole lists of records in one call, beside the reading: every answer and every element.
 
-use std::fs;
 use togbefulo_tests::{
     additions,
     buffers::{Buffers, Lengths},
@@ -12,7 +11,7 @@ use togbefulo_tests::{
         records, set,
     },
     readings,
-    record_files::{self, FILES},
+    record_files::{read_stored, FILES},
     sweep,
 };
 
@@ -138,10 +137,7 @@ fn stored_records() {
     // Each list gets the buffers as the last one left them.
     let mut lent = Buffers::garbage(&mut generator, sweep::LENT);
     for (name, _) in FILES {
-        let [words, file] = record_files::stored(name).map(|path| {
-            let bytes = fs::read(&path);
-            sweep::words(&bytes.unwrap_or_else(|why| panic!("{}: {why}", path.display())))
-        });
+        let [words, file] = read_stored(name).map(|bytes| sweep::words(&bytes));
         compare(&mut generator, &words, &lent, 0);
         assert_eq!(library::build(&words, &mut [], &mut lent), 0);
         let mut word = [0];

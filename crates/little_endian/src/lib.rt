@@ -12,7 +12,8 @@ fn word(a: u8, b: u8, c: u8, d: u8) -> u32
     a as u32 + 256 * (b as u32 + 256 * (c as u32 + 256 * d as u32))
 }
 
-// Writes the whole words of `bytes` to the front of `out`; where it is too short, it answers false and writes nothing.
+// Writes the whole words of `bytes` to the front of `out`; where it is too short, it answers false
+// and writes nothing.
 pub fn read_words(bytes: &[u8], out: &mut [u32]) -> bool
     ensures { λ r. ⌜ r ≡ leb (length (now (bytes .entry)) / 4) (length (now (out .entry))) ⌝ }
     ensures { λ r. ⌜ now (out .exit) ≡ placed r (wordsIn (now (bytes .entry))) (now (out .entry)) ⌝ }
@@ -40,7 +41,8 @@ fn put_word(out: &mut [u8], at: usize, w: u32)
     out[at + 3] = (w / 16777216 % 256) as u8;
 }
 
-// Writes the words' bytes to the front of `out`; where it is too short, it answers false and writes nothing.
+// Writes the words' bytes to the front of `out`; where it is too short, it answers false and
+// writes nothing.
 pub fn write_words(words: &[u32], out: &mut [u8]) -> bool
     ensures { λ r. ⌜ r ≡ leb (length (now (words .entry))) (length (now (out .entry)) / 4) ⌝ }
     ensures { λ r. ⌜ now (out .exit) ≡ placed r (bytesIn (now (words .entry))) (now (out .entry)) ⌝ }

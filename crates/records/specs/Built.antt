@@ -1,4 +1,5 @@
--- What the ledger says of a whole list of records: the answers and every element of the buffers. Definitions only.
+-- What the ledger says of a whole list of records: the answers and every element of the buffers.
+-- Definitions only.
 use mathlib.Core.List.{List, [], _∷_, map}
 use Prim.Native.Nat.{ℕ}
 use lib.Ieee.{Float}

@@ -1,5 +1,6 @@
--- "Program `sweep` reads records of such words from standard input: kind, n, L (layers S for kind 5), centre flag (0 false, else true), size
--- bits, length bits, curve vertex count, the coordinates" (document 01, 'The shared set'), and the additions that they ask for. Definitions
+-- "Program `sweep` reads records of such words from standard input: kind, n, L (layers S for kind
+-- 5), centre flag (0 false, else true), size bits, length bits, curve vertex count, the
+-- coordinates" (document 01, 'The shared set'), and the additions that they ask for. Definitions
 -- only.
 use mathlib.Core.Bool.{Bool, cond, not, _&&_}
 use mathlib.Core.List.{List, [], _∷_, _++_, map}

@@ -12,7 +12,8 @@ use crate::head::record_words;
 use crate::reply::Reply;
 use shared_set::Outcome;
 
-// Puts the number that a record got, if it got one, behind i others; past the end of `answers` it is left out.
+// Puts the number that a record got, if it got one, behind i others; past the end of `answers` it
+// is left out.
 fn put_answer(reply: Reply, answers: &mut [u32], i: usize) -> usize
     requires { ⌜ i + 1 ≤ 18446744073709551615 ⌝ }
     ensures { λ r. ⌜ r ≡ i + length (repliesIn reply) ⌝ }
@@ -53,9 +54,10 @@ fn add_all(
     }
 }
 
-// Clears the set and adds the bodies of a whole list of records, which ends at a short one or one of too many vertices. The number that
-// each addition got, 0 where it was accepted, goes to `answers`, as far as it reaches: one for each record of a known kind, in order. An
-// empty table is refused, and nothing touched.
+// Clears the set and adds the bodies of a whole list of records, which ends at a short one or one
+// of too many vertices. The number that each addition got, 0 where it was accepted, goes to
+// `answers`, as far as it reaches: one for each record of a known kind, in order. An empty table
+// is refused, and nothing touched.
 pub fn build(
     records: &[u32],
     answers: &mut [u32],

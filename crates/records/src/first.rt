@@ -53,7 +53,8 @@ fn add_along(
     shared_set::add(description, &room[..count], table, vertices, triangles)
 }
 
-// Adds the body of the record that `words` begins with; skips it where it is none, or its kind is none of the five.
+// Adds the body of the record that `words` begins with; skips it where it is none, or its kind is
+// none of the five.
 pub fn add_first(
     words: &[u32],
     table: &mut [u32],

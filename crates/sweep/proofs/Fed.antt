@@ -1,7 +1,8 @@
--- A record that was read and added, behind the others. Assumes nothing.
+-- A record that was read and added after the others. Assumes nothing.
 use mathlib.Core.Path.{_≡_, refl, sym, ap, _∙_}
 use mathlib.Core.List.{List}
-use Prim.Native.Nat.{ℕ, _+_, _≤_}
+use Prim.Native.Nat.{ℕ, _+_, _≤_, _<_}
+use native.Mathlib.Omega.{arith}
 use lib.ListN.{length, take}
 use lib.Seq.{length-take-le}
 use Rattle.set_table.specs.Buffers.{Buffers}
@@ -15,15 +16,19 @@ pub read-whole : (end : ℕ) (words : List ℕ) → end ≤ length words → end
     → length (take end words) ≡ recordWords (take end words)
 read-whole end words held is = length-take-le end words held ∙ is
 
+pub read-some : (end : ℕ) (words : List ℕ) → 0 < end → end ≤ length words → 0 < length (take end words)
+read-some end words some held = omega (arith, length-take-le end words held)
+
 pub fed-none : (s : Buffers) → Fed 0 s s
 fed-none s = record { records = none; counted = refl; whole = tt; left = refl }
 
-pub fed-next : (words : List ℕ) {count : ℕ} {before s s′ : Buffers} → Fed count before s → length words ≡ recordWords words
+pub fed-next : (words : List ℕ) {count : ℕ} {before s s′ : Buffers} → Fed count before s
+    → 0 < length words → length words ≡ recordWords words
     → s′ ≡ additions (firstAddition words) s .left → Fed (count + 1) before s′
-fed-next words {before = before} fed is added = record {
+fed-next words {before = before} fed some is added = record {
   records = then (fed .records) words;
   counted = ap (λ (n : ℕ). n + 1) (fed .counted);
-  whole = (fed .whole, is);
+  whole = (fed .whole, some, is);
   left = added ∙ ap (λ (s : Buffers). additions (firstAddition words) s .left) (fed .left)
       ∙ sym (ap (λ (r : Called). r .left) (additions-append (additionsFrom (fed .records)) (firstAddition words) before));
 }

@@ -1,4 +1,5 @@
--- The file of the set in the buffers, as words and as the bytes that go to standard output. Definitions only.
+-- The file of the set in the buffers, as words and as the bytes that go to standard output.
+-- Definitions only.
 use mathlib.Core.Bool.{cond}
 use mathlib.Core.List.{List, []}
 use Prim.Native.Nat.{ℕ}

@@ -4,16 +4,18 @@ ghost use lib.ListN.{length};
 ghost use Rattle.laws.specs.Overwrite.{overwrite};
 ghost use Rattle.set_table.specs.Buffers.{buffers};
 ghost use Rattle.sweep.specs.File.{fileWords, fileBytes};
+use libc::STDOUT_FILENO;
 use little_endian::write_words;
 use set_file::FileWord;
 use set_file::file_word;
+use streams::write_all;
 
-// The words, and the bytes, of the longest file: its head, 64 entries and both buffers full.
+// The words of the longest file: its head, 64 entries and both buffers full.
 const WORDS: usize = 4 + 6 * 64 + 12288 + 12288;
 
 const BYTES: usize = 4 * WORDS;
 
-// The file's words to the front of `words`, as many as it has room for, and how many they are.
+// Writes the file's words to the front of `words`, as many as fit, and answers how many these are.
 fn fill_file(table: &[u32], vertices: &[f32], triangles: &[u32], words: &mut [u32]) -> usize
     ensures { λ r. let file = fileWords (buffers (now (table .entry)) (now (vertices .entry)) (now (triangles .entry))) in
         ⌜ r ≡ min (length file) (length (now (words .entry))) ⌝ }
@@ -35,14 +37,20 @@ fn fill_file(table: &[u32], vertices: &[f32], triangles: &[u32], words: &mut [u3
     i
 }
 
-// Writes the set's file, whole and nothing else, to standard output: the buffers are here to say which.
+// Writes the set's file, whole and nothing else, to standard output, and closes it: some file
+// systems tell of a full disk only then. Says on standard error where this fails. The buffers are
+// passed only so that the contract can name the file.
 fn write_bytes(table: &[u32], vertices: &[f32], triangles: &[u32], bytes: &[u8])
     requires { ⌜ now bytes ≡ fileBytes (buffers (now table) (now vertices) (now triangles)) ⌝ }
 {
-    io::write_all(1, bytes);
+    if write_all(STDOUT_FILENO, bytes) && libc::close(STDOUT_FILENO) == 0 {
+        return;
+    }
+    os::fail(b"sweep: the set could not be written whole; what was written is not a set");
 }
 
-// Writes the set's file to standard output, by way of `words` and `bytes`, which have room for the longest.
+// Writes the set's file to standard output, by way of `words` and `bytes`, in which the longest
+// fits.
 fn write_through(
     table: &[u32],
     vertices: &[f32],
@@ -62,7 +70,7 @@ fn write_through(
     write_bytes(table, vertices, triangles, &bytes[..end]);
 }
 
-// Writes the set's file to standard output, until it is whole or the output fails.
+// Writes the set's file to standard output.
 pub(crate) fn write_file(table: &[u32], vertices: &[f32], triangles: &[u32])
     requires { ⌜ 385 ≡ length (now table) ⌝ }
     requires { ⌜ 12288 ≡ length (now vertices) ⌝ }

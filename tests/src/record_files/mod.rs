@@ -5,6 +5,7 @@ mod entries;
 mod exact;
 mod example_c;
 mod harness;
+mod mixed;
 mod refusals;
 mod sample;
 
@@ -15,16 +16,23 @@ use crate::{
     },
     sweep,
 };
-use std::path::{Path, PathBuf};
+use std::{
+    fs,
+    path::{Path, PathBuf},
+};
 
 /// The example of the README.
 pub const EXAMPLE: &str = "harness";
 
+/// What the gate runs `sweep` on: crates/sweep has it as its input.
+pub const GATE: &str = "mixed";
+
 /// A file's name, and what makes its bytes.
 pub type RecordFile = (&'static str, fn() -> Vec<u8>);
 
-pub const FILES: [RecordFile; 12] = [
+pub const FILES: [RecordFile; 13] = [
     ("sample", sample::file),
+    (GATE, mixed::file),
     (EXAMPLE, harness::file),
     ("example_c", example_c::file),
     ("refusals", refusals::file),
@@ -57,6 +65,14 @@ pub fn stored(name: &str) -> [PathBuf; 2] {
         tests.join("records").join(name).with_extension("records"),
         set.join(name).with_extension("set"),
     ]
+}
+
+/// The bytes of both.
+pub fn read_stored(name: &str) -> [Vec<u8>; 2] {
+    stored(name).map(|path| {
+        let bytes = fs::read(&path);
+        bytes.unwrap_or_else(|why| panic!("{}: {why}", path.display()))
+    })
 }
 
 /// A record of this kind; what a kind lacks is 0.

@@ -1,12 +1,13 @@
 -- What was read is one record; no turn of the loop changes a buffer's length, and the count ends it. Assumes nothing.
-use mathlib.Core.Path.{_≡_, refl}
+use mathlib.Core.Path.{_≡_, refl, sym}
 use Prim.Native.Nat.{_-_}
 use native.Mathlib.Omega.{arith}
 use borrow.Author.Needs.{needs}
-use lib.ListN.{length, length-take}
+use lib.ListN.{length}
+use lib.Seq.{length-take-le}
 use Rattle.set_table.specs.Buffers.{buffers}
 use Rattle.sweep.specs.Input.{Fed}
-use Rattle.sweep.proofs.Fed.{read-whole, fed-none, fed-next}
+use Rattle.sweep.proofs.Fed.{read-whole, read-some, fed-none, fed-next}
 use Rattle.sweep.proofs.input.add_records.Statement.{statement}
 use Rattle.sweep.proofs.input.add_records.Tie as tie
 
@@ -31,6 +32,15 @@ loop-holds c = (refl, refl, refl, refl, refl, fed-none _)
 read-record-requires : tie.Need-read-record-requires Inv-loop μ-loop
 read-record-requires c κs = omega arith
 
+enum-known-why : tie.Need-enum-known-why Inv-loop μ-loop
+enum-known-why c = search needs
+
+add-report : tie.Need-add-report Inv-loop μ-loop
+add-report c = omega arith
+
+report-requires : tie.Need-report-requires Inv-loop μ-loop
+report-requires c κs = search needs
+
 same-length : tie.Need-same-length Inv-loop μ-loop
 same-length c = search needs
 
@@ -41,18 +51,21 @@ same-length-3 : tie.Need-same-length-3 Inv-loop μ-loop
 same-length-3 c = search needs
 
 returns : tie.Need-returns Inv-loop μ-loop
-returns c = c .before .before .before .before .before .before .before .before .before .before .before .loop .inv .5
+returns c = c .before .before .before .before .before .before .before .before .before .before .before .before .before .before .loop .inv .5
+
+enum-known-end : tie.Need-enum-known-end Inv-loop μ-loop
+enum-known-end c = search needs
 
 slice-reshare-prefix-add-record : tie.Need-slice-reshare-prefix-add-record Inv-loop μ-loop
-slice-reshare-prefix-add-record c = omega arith
+slice-reshare-prefix-add-record c = (rw (c .before .end .given .1) at (c .before .before .before .before .before .before .before .read-record .ensures)) .1
 
 slice-aggregate-add-record : tie.Need-slice-aggregate-add-record Inv-loop μ-loop
-slice-aggregate-add-record c = simp length-take (omega arith)
+slice-aggregate-add-record c = sym (length-take-le _ _ (slice-reshare-prefix-add-record (c .before)))
 
 add-record-requires : tie.Need-add-record-requires Inv-loop μ-loop
 add-record-requires c κs =
-    let read = c .before .before .before .before .before .before .before .before .before .read-record .ensures in
-    read-whole _ _ (read .0) (read .1)
+    let read = rw (c .before .before .before .before .before .end .given .1) at (c .before .before .before .before .before .before .before .before .before .before .before .read-record .ensures) in
+    read-whole _ _ (read .1) (read .2)
 
 add-count : tie.Need-add-count Inv-loop μ-loop
 add-count c = omega arith
@@ -63,9 +76,12 @@ loop-less c = omega arith
 loop-again : tie.Need-loop-again Inv-loop μ-loop
 loop-again c =
     let added = c .before .before .before .before .before .before in
-    let read = added .before .before .before .before .before .before .before .before .before .before in
+    let known = added .before .before .before .before .before .before in
+    let read = known .before .before .before .before .before .before in
     let l = read .before .before .before .before .loop in
-    let fed = fed-next _ (l .inv .5) (read-whole _ _ (read .read-record .ensures .0) (read .read-record .ensures .1)) (added .add-record .ensures) in
+    let found = rw (known .end .given .1) at (read .read-record .ensures) in
+    let some = read-some _ _ (found .0) (found .1) in
+    let fed = fed-next _ (l .inv .5) some (read-whole _ _ (found .1) (found .2)) (added .add-record .ensures) in
     (omega arith, omega arith, omega arith, omega arith, omega arith, fed)
 
 same-length-4 : tie.Need-same-length-4 Inv-loop μ-loop
@@ -90,10 +106,14 @@ add-records-spec =
     slice-aggregate-words
     loop-holds
     read-record-requires
+    enum-known-why
+    add-report
+    report-requires
     same-length
     same-length-2
     same-length-3
     returns
+    enum-known-end
     slice-reshare-prefix-add-record
     slice-aggregate-add-record
     add-record-requires
