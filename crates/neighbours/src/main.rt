@@ -1,21 +1,18 @@
-// Loads bodies into the shared set, each between two others, since a ring that is written too far shows only in a neighbour. It compares
-// every element of the buffers: each body with the same body alone, what lies past them with what it held before. First comes each kind
-// between each two kinds, then bodies drawn by a small generator, and a line is printed for either. The expected output was made outside
-// Rattle, by tests/src/bin/neighbours.rs from document 01's counts.
-mod alone;
-mod cases;
+// Loads bodies into the shared set, each between two others, since a ring that is written too far
+// shows only in a neighbour. It compares every element of the buffers: each body with the same body
+// alone, what lies past them with what it held before. First comes each kind between each two
+// kinds, then bodies drawn by a small generator, and a line is printed for each of the two. What it
+// must print was made outside Rattle, by tests/src/bin/neighbours.rs from document 01's counts.
 mod compare;
-mod curves;
-mod generator;
 mod loading;
 mod markers;
 mod placed;
 mod tally;
 
-use crate::cases::drawn_triple;
-use crate::cases::triple_of_kinds;
 use crate::loading::load;
 use crate::tally::Tally;
+use drawn_bodies::drawn_triple;
+use drawn_bodies::triple_of_kinds;
 
 const TRIPLES_OF_KINDS: u32 = 125;
 

@@ -1,15 +1,17 @@
-// What the buffers hold before anything is loaded: a pattern of its own in each buffer, another word at each place.
+// What the buffers hold before anything is loaded: each buffer has its own pattern, with another
+// word at each place.
 use float32::from_word;
 use std::num::wrapping_add_u32;
 
-// Where each buffer's pattern begins: at numbers that no word of a table or index reaches, and at the bits of 2^23, where no vertex lies.
+// The first word of each buffer's pattern. No word of a table and no index is as large, and the
+// vertices' pattern begins at the bits of 2^23, where no vertex lies.
 pub(crate) const TABLE: u32 = 0x5400_0000;
 
 pub(crate) const VERTICES: u32 = 0x4B00_0000;
 
 pub(crate) const TRIANGLES: u32 = 0x7100_0000;
 
-// What stands at a place of the buffer whose pattern begins so.
+// The word at a place of the pattern that begins with `start`.
 pub(crate) fn marker(start: u32, place: usize) -> u32 {
     wrapping_add_u32(start, (place % 65536) as u32)
 }

@@ -1,182 +1,125 @@
-// Each body at its place in the set, compared with the body alone, and what lies past the bodies with what it held before.
+// Each body at its place in the set, compared with the body alone, and what lies past the bodies
+// with what it held before.
 ghost use mathlib.Core.Path.{_≡_};
-ghost use Prim.Native.Nat.{_+_, _*_, _≤_, _<_};
+ghost use Prim.Native.Nat.{_<_};
 ghost use lib.ListN.{length};
-use crate::alone::Counts;
-use crate::alone::ELEMENTS;
-use crate::alone::write_alone;
-use crate::cases::Case;
-use crate::cases::Triple;
-use crate::compare::compare_floats;
-use crate::compare::compare_floats_past;
+use crate::compare::compare_past;
 use crate::compare::compare_words;
-use crate::compare::compare_words_past;
 use crate::markers;
 use crate::tally::Tally;
+use drawn_bodies::Case;
+use drawn_bodies::Counts;
+use drawn_bodies::Triple;
+use drawn_bodies::write_alone;
+use std::num::wrapping_add_u32;
 
-// The vertices, and the triangles, that the buffers have room for.
-const MOST: usize = 4096;
+// Room for the coordinates of a body alone, and for its indices.
+const ELEMENTS: usize = 4095;
 
-// What was compared of the set so far, and how many vertices and triangles the bodies have up to there.
+// What was compared of a body, and how many vertices and triangles the set has up to its end.
 struct Compared {
     tally: Tally,
     totals: Counts,
 }
 
-impl Compared {
-    fn none() -> Compared
-        ensures { λ r. ⌜ (r .totals .vertices ≡ 0) × (r .totals .triangles ≡ 0) ⌝ }
-    {
-        Compared {
-            tally: Tally::differences(0),
-            totals: Counts::none(),
-        }
-    }
-
-    // The same, with a difference more: a body for which there is no room.
-    fn refused(self) -> Compared
-        ensures { λ r. ⌜ (r .totals .vertices ≡ self .totals .vertices) × (r .totals .triangles ≡ self .totals .triangles) ⌝ }
-    {
-        let totals = self.totals;
-        Compared {
-            tally: self.tally.plus(Tally::differences(1)),
-            totals,
-        }
-    }
-}
-
-// The entry of body j of a set, whose vertices and triangles come behind `first`.
+// Compares the entry of body j, whose vertices and triangles come after `first`.
 fn compare_entry(case: Case, j: usize, first: Counts, own: Counts, table: &[u32]) -> Tally
     requires { ⌜ j < 3 ⌝ }
     requires { ⌜ 385 ≡ length (now table) ⌝ }
-    requires { ⌜ (first .vertices ≤ 4096) × (first .triangles ≤ 4096) ⌝ }
-    requires { ⌜ (own .vertices ≤ 4096) × (own .triangles ≤ 4096) ⌝ }
 {
     let start = 1 + 6 * j;
     let end = start + 6;
     let entry = [
         case.kind as u32,
         case.entry_divisions(),
-        first.vertices as u32,
-        own.vertices as u32,
-        first.triangles as u32,
-        own.triangles as u32,
+        first.vertices,
+        own.vertices,
+        first.triangles,
+        own.triangles,
     ];
     compare_words(&entry, 0, &table[start..end])
 }
 
-fn compare_vertices(first: usize, count: usize, alone: &[f32], set: &[f32]) -> Tally
-    requires { ⌜ 3 * count ≤ length (now alone) ⌝ }
-    requires { ⌜ 3 * first + 3 * count ≤ length (now set) ⌝ }
-{
-    let start = 3 * first;
-    let size = 3 * count;
+// Compares the first `count` triples of `alone`, with `shift` added to each word, with those of
+// `set` from triple `first` on. Where either slice is too short, that is one difference.
+fn compare_stretch(first: u32, count: u32, shift: u32, alone: &[u32], set: &[u32]) -> Tally {
+    let start = 3 * first as usize;
+    let size = 3 * count as usize;
     let end = start + size;
-    compare_floats(&alone[..size], &set[start..end])
+    if size > alone.len() {
+        return Tally::differences(1);
+    }
+    if end > set.len() {
+        return Tally::differences(1);
+    }
+    compare_words(&alone[..size], shift, &set[start..end])
 }
 
-fn compare_triangles(first: Counts, count: usize, alone: &[u32], set: &[u32]) -> Tally
-    requires { ⌜ first .vertices ≤ 4096 ⌝ }
-    requires { ⌜ 3 * count ≤ length (now alone) ⌝ }
-    requires { ⌜ 3 * first .triangles + 3 * count ≤ length (now set) ⌝ }
-{
-    let start = 3 * first.triangles;
-    let size = 3 * count;
-    let end = start + size;
-    compare_words(&alone[..size], first.vertices as u32, &set[start..end])
-}
-
-// The stretches of a body, whose vertices and triangles come behind `first`, in the set and alone.
-fn compare_alone(
-    first: Counts,
-    own: Counts,
-    alone_vertices: &[f32],
-    alone_triangles: &[u32],
-    vertices: &[f32],
-    triangles: &[u32],
-) -> Tally
-    requires { ⌜ (first .vertices + own .vertices ≤ 4096) × (first .triangles + own .triangles ≤ 4096) ⌝ }
-    requires { ⌜ (12288 ≡ length (now «alone_vertices»)) × (12288 ≡ length (now «alone_triangles»)) ⌝ }
-    requires { ⌜ (12288 ≡ length (now vertices)) × (12288 ≡ length (now triangles)) ⌝ }
-{
-    let shape = compare_vertices(first.vertices, own.vertices, alone_vertices, vertices);
-    shape.plus(compare_triangles(first, own.triangles, alone_triangles, triangles))
-}
-
-// Body j of the set, behind those that were compared.
+// Compares body j of the set, whose vertices and triangles come after `first`, with it alone.
+// The totals stay far below 2^32, where they would wrap.
 fn compare_body(
-    before: Compared,
+    first: Counts,
     j: usize,
     case: Case,
     table: &[u32],
-    vertices: &[f32],
+    coordinates: &[u32],
     triangles: &[u32],
 ) -> Compared
-    requires { ⌜ (before .totals .vertices ≤ 4096) × (before .totals .triangles ≤ 4096) ⌝ }
     requires { ⌜ j < 3 ⌝ }
     requires { ⌜ 385 ≡ length (now table) ⌝ }
-    requires { ⌜ 12288 ≡ length (now vertices) ⌝ }
-    requires { ⌜ 12288 ≡ length (now triangles) ⌝ }
-    ensures { λ r. ⌜ (r .totals .vertices ≤ 4096) × (r .totals .triangles ≤ 4096) ⌝ }
 {
-    let mut floats = [0f32; ELEMENTS];
+    let mut shape = [0u32; ELEMENTS];
     let mut indices = [0u32; ELEMENTS];
-    let own = write_alone(case, &mut floats, &mut indices);
-    let first = before.totals;
-    let totals = first.plus(own);
-    if totals.vertices > MOST {
-        return before.refused();
-    }
-    if totals.triangles > MOST {
-        return before.refused();
-    }
-    let alone = compare_alone(first, own, &floats, &indices, vertices, triangles);
+    let own = write_alone(case, &mut shape, &mut indices);
     let entry = compare_entry(case, j, first, own, table);
-    let tally = before.tally.plus(entry).plus(alone);
-    Compared { tally, totals }
+    let vertex = first.vertices;
+    let drawn = compare_stretch(vertex, own.vertices, 0, &shape, coordinates);
+    let joined = compare_stretch(first.triangles, own.triangles, vertex, &indices, triangles);
+    Compared {
+        tally: entry.plus(drawn).plus(joined),
+        totals: Counts {
+            vertices: wrapping_add_u32(vertex, own.vertices),
+            triangles: wrapping_add_u32(first.triangles, own.triangles),
+        },
+    }
 }
 
-// Word 0, and the table past the three entries.
+// Compares word 0, and the table past the three entries.
 pub(crate) fn compare_table(table: &[u32]) -> Tally
     requires { ⌜ 385 ≡ length (now table) ⌝ }
 {
-    compare_words(&[3], 0, &table[..1]).plus(compare_words_past(19, markers::TABLE, table))
+    compare_words(&[3], 0, &table[..1]).plus(compare_past(19, markers::TABLE, table))
 }
 
-// The buffers past the bodies.
-fn compare_past(totals: Counts, vertices: &[f32], triangles: &[u32]) -> Tally
-    requires { ⌜ (totals .vertices ≤ 4096) × (totals .triangles ≤ 4096) ⌝ }
-    requires { ⌜ 12288 ≡ length (now vertices) ⌝ }
-    requires { ⌜ 12288 ≡ length (now triangles) ⌝ }
-{
-    compare_floats_past(3 * totals.vertices, markers::VERTICES, vertices).plus(compare_words_past(
-        3 * totals.triangles,
-        markers::TRIANGLES,
-        triangles,
-    ))
+// Compares the buffers past the bodies.
+fn compare_rest(totals: Counts, coordinates: &[u32], triangles: &[u32]) -> Tally {
+    let shape = compare_past(3 * totals.vertices as usize, markers::VERTICES, coordinates);
+    shape.plus(compare_past(3 * totals.triangles as usize, markers::TRIANGLES, triangles))
 }
 
-// The three bodies, and the buffers past them.
+// Compares the three bodies, and the buffers past them.
 pub(crate) fn compare_bodies(
     triple: Triple,
     table: &[u32],
-    vertices: &[f32],
+    coordinates: &[u32],
     triangles: &[u32],
 ) -> Tally
     requires { ⌜ 385 ≡ length (now table) ⌝ }
-    requires { ⌜ 12288 ≡ length (now vertices) ⌝ }
-    requires { ⌜ 12288 ≡ length (now triangles) ⌝ }
 {
-    let first = compare_body(
-        Compared::none(),
-        0,
-        triple.first,
+    let none = Counts {
+        vertices: 0,
+        triangles: 0,
+    };
+    let first = compare_body(none, 0, triple.first, table, coordinates, triangles);
+    let middle = compare_body(
+        first.totals,
+        1,
+        triple.middle,
         table,
-        vertices,
+        coordinates,
         triangles,
     );
-    let middle = compare_body(first, 1, triple.middle, table, vertices, triangles);
-    let last = compare_body(middle, 2, triple.last, table, vertices, triangles);
-    last.tally
-        .plus(compare_past(last.totals, vertices, triangles))
+    let last = compare_body(middle.totals, 2, triple.last, table, coordinates, triangles);
+    let rest = compare_rest(last.totals, coordinates, triangles);
+    first.tally.plus(middle.tally).plus(last.tally).plus(rest)
 }

@@ -1,6 +1,7 @@
 use std::num::wrapping_add_u64;
 
-// How many elements of bodies, and how many past them, were compared, and how many of all these differ.
+// How many elements of bodies and how many past them were compared, and how many of all these
+// differ.
 pub(crate) struct Tally {
     pub bodies: u64,
     pub past: u64,
@@ -8,7 +9,7 @@ pub(crate) struct Tally {
 }
 
 impl Tally {
-    // Nothing compared, and so many differences.
+    // Nothing compared, and `count` differences.
     pub(crate) fn differences(count: u64) -> Tally {
         Tally {
             bodies: 0,
@@ -17,7 +18,7 @@ impl Tally {
         }
     }
 
-    // Both together. All sums here stay far below 2^64, where they would wrap.
+    // The sums of both. They stay far below 2^64, where they would wrap.
     pub(crate) fn plus(self, more: Tally) -> Tally {
         Tally {
             bodies: wrapping_add_u64(self.bodies, more.bodies),

@@ -14,8 +14,8 @@ slice-aggregate-compare-words-2 c = simp length-take (omega arith)
 compare-words-requires : tie.Need-compare-words-requires
 compare-words-requires c κs = simp length-take (omega arith)
 
-compare-words-past-requires : tie.Need-compare-words-past-requires
-compare-words-past-requires c κs = search needs
+compare-past-requires : tie.Need-compare-past-requires
+compare-past-requires c κs = search needs
 
 plus-requires : tie.Need-plus-requires
 plus-requires c κs = search needs
@@ -30,6 +30,6 @@ compare-table-spec =
     slice-aggregate-compare-words
     slice-aggregate-compare-words-2
     compare-words-requires
-    compare-words-past-requires
+    compare-past-requires
     plus-requires
     returns)

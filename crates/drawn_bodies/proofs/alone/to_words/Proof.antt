@@ -1,17 +1,17 @@
--- No more elements differ than lie in front of the place. Assumes nothing.
-use mathlib.Core.Logic.{⊎-elim}
+-- Each place lies within both slices. Assumes nothing.
+use mathlib.Core.Path.{_≡_}
 use Prim.Native.Nat.{_-_, _≤_}
 use native.Mathlib.Omega.{arith}
 use borrow.Author.Needs.{needs}
-use lib.ListN.{length}
-use Rattle.neighbours.proofs.compare.compare_floats_past.Statement.{statement}
-use Rattle.neighbours.proofs.compare.compare_floats_past.Tie as tie
+use lib.ListN.{length, length-set}
+use Rattle.drawn_bodies.proofs.alone.to_words.Statement.{statement}
+use Rattle.drawn_bodies.proofs.alone.to_words.Tie as tie
 
 abbrev Inv-loop : tie.InvT-loop
-Inv-loop end start floats differing₀ i₀ differing i = (end ≤ i) × (i ≤ length floats) × (differing ≤ i)
+Inv-loop floats words₀ i₀ words i = (i ≤ length floats) × (length words ≡ length words₀)
 
 abbrev μ-loop : tie.MeasureT-loop
-μ-loop end start floats differing₀ i₀ differing i = length floats - i
+μ-loop floats words₀ i₀ words i = length floats - i
 
 loop-holds : tie.Need-loop-holds Inv-loop μ-loop
 loop-holds c = search needs
@@ -25,11 +25,11 @@ shared-slice-read-to-word c = search needs
 to-word-requires : tie.Need-to-word-requires Inv-loop μ-loop
 to-word-requires c κs = search needs
 
-marker-requires : tie.Need-marker-requires Inv-loop μ-loop
-marker-requires c κs = search needs
+mul-words : tie.Need-mul-words Inv-loop μ-loop
+mul-words c = search needs
 
-add-differing : tie.Need-add-differing Inv-loop μ-loop
-add-differing c = search needs
+slice-write-words : tie.Need-slice-write-words Inv-loop μ-loop
+slice-write-words c = search needs
 
 add-i : tie.Need-add-i Inv-loop μ-loop
 add-i c = search needs
@@ -38,16 +38,16 @@ loop-less : tie.Need-loop-less Inv-loop μ-loop
 loop-less c = search needs
 
 loop-again : tie.Need-loop-again Inv-loop μ-loop
-loop-again c = ⊎-elim (λ w. omega arith) (λ w. omega arith) (c .if1 .came)
+loop-again c = simp length-set (omega arith)
 
-sub-t12 : tie.Need-sub-t12 Inv-loop μ-loop
-sub-t12 c = search needs
+same-length : tie.Need-same-length Inv-loop μ-loop
+same-length c = search needs
 
 returns : tie.Need-returns Inv-loop μ-loop
 returns c = search needs
 
-pub compare-floats-past-spec : {M : Type 1} → statement M
-compare-floats-past-spec =
+pub to-words-spec : {M : Type 1} → statement M
+to-words-spec =
     tie.close
     (tie.spec
     Inv-loop
@@ -56,10 +56,10 @@ compare-floats-past-spec =
     mul-to-word
     shared-slice-read-to-word
     to-word-requires
-    marker-requires
-    add-differing
+    mul-words
+    slice-write-words
     add-i
     loop-less
     loop-again
-    sub-t12
+    same-length
     returns)

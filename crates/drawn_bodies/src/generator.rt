@@ -13,7 +13,7 @@ pub(crate) fn below(state: u32, n: u8) -> u8
     (state / 65536 % n as u32) as u8
 }
 
-// So many eighths, exactly.
+// n / 8, exactly.
 pub(crate) fn eighths(n: u8) -> f32 {
     n as f32 * 0.125
 }

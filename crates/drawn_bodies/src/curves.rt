@@ -18,7 +18,7 @@ fn put_vertex(curve: &mut [f32], at: usize, x: f32, y: f32, z: f32)
     curve[at + 2] = z;
 }
 
-// An open curve, as far as there is room: x and y wander, z rises by 1/4 or more at each segment.
+// Fills the slice with an open curve: x and y wander, z rises by 1/4 or more at each segment.
 fn fill_open(seed: u32, curve: &mut [f32]) {
     let mut state = seed;
     let mut z = 0.0f32;
@@ -33,8 +33,8 @@ fn fill_open(seed: u32, curve: &mut [f32]) {
     }
 }
 
-// A closed curve of so many vertices, and on past them: seen along z an arch over its closing segment, that rises less at each vertex; z
-// wanders.
+// Fills the slice with a closed curve whose first `vertices` vertices are used. Seen along z it is
+// an arch over its closing segment, which rises less at each vertex; z wanders.
 fn fill_closed(vertices: u8, seed: u32, curve: &mut [f32]) {
     let mut state = seed;
     let mut x = 0.0f32;
@@ -51,7 +51,7 @@ fn fill_closed(vertices: u8, seed: u32, curve: &mut [f32]) {
     }
 }
 
-// The coordinates of the case's curve to the front of `space`, and how many they are.
+// Writes the coordinates of the case's curve to the front of `space`, and answers their number.
 pub(crate) fn fill_curve(case: Case, space: &mut [f32]) -> usize
     requires { ⌜ 768 ≡ length (now space) ⌝ }
     ensures { λ r. ⌜ (r ≤ length (now (space .exit))) × (r ≡ length (take r (now (space .exit)))) ⌝ }

@@ -2,8 +2,8 @@
 use native.Mathlib.Omega.{arith}
 use borrow.Author.Needs.{needs}
 use lib.ListN.{length-take}
-use Rattle.neighbours.proofs.curves.fill_curve.Statement.{statement}
-use Rattle.neighbours.proofs.curves.fill_curve.Tie as tie
+use Rattle.drawn_bodies.proofs.curves.fill_curve.Statement.{statement}
+use Rattle.drawn_bodies.proofs.curves.fill_curve.Tie as tie
 
 cast-count : tie.Need-cast-count
 cast-count c = search needs

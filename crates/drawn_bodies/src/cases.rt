@@ -5,9 +5,11 @@ use crate::generator::eighths;
 use crate::generator::next;
 use descriptions::Description;
 
-// A body in small numbers: its kind by document 01's number, the width, radius and length in eighths, and of its curve the number of vertices
-// and the seed that it is drawn from. What a kind lacks is ignored; `steps` are the longitudes of a capsule and the layers of a closed cylinder.
-pub(crate) struct Case {
+// A body in small numbers: its kind by document 01's number, its width, radius and length in
+// eighths, the number of vertices of its curve and the seed from which the curve is drawn.
+// `steps` are the longitudes of a capsule and the layers of a closed cylinder. A field that a kind
+// does not have is ignored.
+pub struct Case {
     pub kind: u8,
     pub divisions: u8,
     pub steps: u8,
@@ -19,7 +21,7 @@ pub(crate) struct Case {
 }
 
 // A body between two others.
-pub(crate) struct Triple {
+pub struct Triple {
     pub first: Case,
     pub middle: Case,
     pub last: Case,
@@ -50,7 +52,7 @@ impl Case {
     }
 
     // The n of the body's entry: 0 for a ribbon.
-    pub(crate) fn entry_divisions(self) -> u32 {
+    pub fn entry_divisions(self) -> u32 {
         if self.kind == 1 {
             0
         } else {
@@ -59,7 +61,8 @@ impl Case {
     }
 }
 
-// The small body of a kind at one of the three places: each place has its own sizes and its own curve.
+// The small body of a kind at one of the three places. Each place has its own sizes and its own
+// curve.
 fn small_case(kind: u8, place: u8) -> Case
     requires { ⌜ place < 3 ⌝ }
 {
@@ -75,8 +78,8 @@ fn small_case(kind: u8, place: u8) -> Case
     }
 }
 
-// Of the 125 triples of kinds the one with this number.
-pub(crate) fn triple_of_kinds(number: u32) -> Triple {
+// The triple of kinds with this number, of the 125.
+pub fn triple_of_kinds(number: u32) -> Triple {
     Triple {
         first: small_case((1 + number / 25 % 5) as u8, 0),
         middle: small_case((1 + number / 5 % 5) as u8, 1),
@@ -84,7 +87,7 @@ pub(crate) fn triple_of_kinds(number: u32) -> Triple {
     }
 }
 
-// As many curve vertices as the kind may have, up to 17.
+// A number of curve vertices that the kind permits, at most 17.
 fn drawn_vertices(kind: u8, state: u32) -> u8 {
     match kind {
         4 => 3 + below(state, 15),
@@ -93,7 +96,8 @@ fn drawn_vertices(kind: u8, state: u32) -> u8 {
     }
 }
 
-// Longitudes or layers: none only on a curve that is long enough for a capsule without.
+// A number of longitudes or layers. It is 0 only where the curve is long enough for a capsule with
+// no longitudes.
 fn drawn_steps(vertices: u8, state: u32) -> u8 {
     if vertices < 4 {
         return 1 + below(state, 8);
@@ -101,7 +105,8 @@ fn drawn_steps(vertices: u8, state: u32) -> u8 {
     below(state, 9)
 }
 
-// A body of any kind. The largest, a capsule of 22 divisions, 8 longitudes and 16 segments, has 1,364 triangles: three of them fit.
+// A body of any kind. The largest, a capsule of 22 divisions, 8 longitudes and 16 segments, has
+// 1,364 triangles, so three of them fit into the buffers.
 fn drawn_case(state: u32) -> Case {
     let round = next(state);
     let along = next(round);
@@ -124,7 +129,7 @@ fn drawn_case(state: u32) -> Case {
 }
 
 // Three bodies, each drawn from the seed of the one before.
-pub(crate) fn drawn_triple(state: u32) -> Triple {
+pub fn drawn_triple(state: u32) -> Triple {
     let first = drawn_case(state);
     let middle = drawn_case(first.seed);
     let last = drawn_case(middle.seed);

@@ -3,8 +3,8 @@ use Prim.Native.Nat.{_/_}
 use native.Mathlib.Nat.{mod-lt}
 use native.Mathlib.Omega.{arith}
 use borrow.Author.Needs.{needs}
-use Rattle.neighbours.proofs.generator.below.Statement.{statement}
-use Rattle.neighbours.proofs.generator.below.Tie as tie
+use Rattle.drawn_bodies.proofs.generator.below.Statement.{statement}
+use Rattle.drawn_bodies.proofs.generator.below.Tie as tie
 
 rem-result : tie.Need-rem-result
 rem-result c = search needs

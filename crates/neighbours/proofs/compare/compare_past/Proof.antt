@@ -4,11 +4,11 @@ use Prim.Native.Nat.{_-_, _≤_}
 use native.Mathlib.Omega.{arith}
 use borrow.Author.Needs.{needs}
 use lib.ListN.{length}
-use Rattle.neighbours.proofs.compare.compare_words_past.Statement.{statement}
-use Rattle.neighbours.proofs.compare.compare_words_past.Tie as tie
+use Rattle.neighbours.proofs.compare.compare_past.Statement.{statement}
+use Rattle.neighbours.proofs.compare.compare_past.Tie as tie
 
 abbrev Inv-loop : tie.InvT-loop
-Inv-loop end start words differing₀ i₀ differing i = (end ≤ i) × (i ≤ length words) × (differing ≤ i)
+Inv-loop end start words differing₀ i₀ differing i = (end ≤ i) × (differing ≤ i)
 
 abbrev μ-loop : tie.MeasureT-loop
 μ-loop end start words differing₀ i₀ differing i = length words - i
@@ -43,8 +43,8 @@ sub-t11 c = search needs
 returns : tie.Need-returns Inv-loop μ-loop
 returns c = search needs
 
-pub compare-words-past-spec : {M : Type 1} → statement M
-compare-words-past-spec =
+pub compare-past-spec : {M : Type 1} → statement M
+compare-past-spec =
     tie.close
     (tie.spec
     Inv-loop

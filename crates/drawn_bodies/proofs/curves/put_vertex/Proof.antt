@@ -2,8 +2,8 @@
 use native.Mathlib.Omega.{arith}
 use borrow.Author.Needs.{needs}
 use lib.ListN.{length-set}
-use Rattle.neighbours.proofs.curves.put_vertex.Statement.{statement}
-use Rattle.neighbours.proofs.curves.put_vertex.Tie as tie
+use Rattle.drawn_bodies.proofs.curves.put_vertex.Statement.{statement}
+use Rattle.drawn_bodies.proofs.curves.put_vertex.Tie as tie
 
 mul-curve : tie.Need-mul-curve
 mul-curve c = search needs
