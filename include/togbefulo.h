@@ -63,6 +63,8 @@
  * Seen from outside, the triangles of a tube, a capsule, a torus or a closed cylinder run
  * counter-clockwise: by the right-hand rule they face outward. A ribbon's run counter-clockwise on
  * the side from which, with the curve running upward, the band lies to the right of the curve.
+ * Coordinates are taken as right-handed. Where a curve bends more sharply than the radius allows, a
+ * body crosses itself, and has no plain outside there.
  *
  * togbefulo_clear comes first. togbefulo_counts says how many vertices and triangles a body has; one that fits exactly
  * is accepted. A table that was changed by hand is answered 1 where it has one of the faults listed for 1 below;
