@@ -211,12 +211,12 @@ fn interrupted_input() {
     assert!(run.status.success(), "{}", run.status);
 }
 
-/// A write that signals interrupt before it moves a byte is made again.
-#[test]
-fn interrupted_output() {
-    let [records, set] = stored(EXAMPLE);
+/// Interrupts the writing of a stored set to a socket that takes `room` bytes at first and the rest
+/// later: the whole set arrives, once.
+fn interrupt_output(name: &str, room: usize) {
+    let [records, set] = stored(name);
     let [theirs, mut ours] = pair();
-    let held = fill(&theirs, &ours, 0);
+    let held = fill(&theirs, &ours, room);
     theirs.set_write_timeout(Some(PATIENCE)).expect("a socket");
     let child = start(Stdio::piped(), OwnedFd::from(theirs));
     let mut written = Vec::new();
@@ -232,4 +232,16 @@ fn interrupted_output() {
     assert!(written[held..] == set, "{}", run.said);
     assert_eq!(run.said, "");
     assert!(run.status.success(), "{}", run.status);
+}
+
+/// A write that signals interrupt before it moves a byte is made again.
+#[test]
+fn interrupted_output() {
+    interrupt_output(EXAMPLE, 0);
+}
+
+/// A write that signals interrupt after it moved a part: the next goes on behind that part.
+#[test]
+fn output_interrupted_after_a_part() {
+    interrupt_output("exact", 40_960);
 }

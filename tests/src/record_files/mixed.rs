@@ -1,5 +1,6 @@
-//! Three bodies of every kind, with refused records and unknown kinds between them, and a short record at the end: what
-//! the gate runs `sweep` on. Records have many lengths, and no two bodies are alike.
+//! Three bodies or more of every kind, with refused records and unknown kinds between them, and a
+//! short record at the end: what the gate runs `sweep` on. Records have many lengths, and no two
+//! bodies are alike.
 
 use super::{bytes, capsule, closed_cylinder, record, ribbon, torus, tube};
 use crate::paper::description::Input;
