@@ -20,7 +20,10 @@ Set = namedtuple("Set", "bodies vertices triangles")
 
 def read(name=None):
     """The set in the named file, or on standard input."""
-    data = Path(name).read_bytes() if name else sys.stdin.buffer.read()
+    try:
+        data = Path(name).read_bytes() if name else sys.stdin.buffer.read()
+    except OSError as why:
+        sys.exit("%s: %s" % (name or "standard input", why.strerror))
     edition, count, vertices, triangles = struct.unpack("<4I", data[:16].ljust(16, b"\0"))
     if edition != 1 or len(data) != 4 * (4 + 6 * count + 3 * vertices + 3 * triangles):
         sys.exit("this is not the file of a set")

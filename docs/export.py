@@ -96,8 +96,11 @@ def main():
         chosen = [part for part in chosen if str(part.place) == arguments[2]]
         if not chosen:
             sys.exit("%s has no body %s" % (arguments[0], arguments[2]))
-    with open(arguments[1], "w", encoding="ascii") as output:
-        output.writelines(line + "\n" for line in FORMATS[ending](chosen))
+    try:
+        with open(arguments[1], "w", encoding="ascii") as output:
+            output.writelines(line + "\n" for line in FORMATS[ending](chosen))
+    except OSError as why:
+        sys.exit("%s: %s" % (arguments[1], why.strerror))
 
 
 if __name__ == "__main__":

@@ -1,4 +1,7 @@
-"""docs/export.py: what it writes, read back by readers.py, by assimp and by admesh."""
+"""docs/export.py: what it writes, read back by readers.py, by assimp and by admesh.
+
+Also what the scripts that read a set say when a file cannot be read or written.
+"""
 
 import operator
 import random
@@ -106,6 +109,22 @@ class Readers(Written):
             done = run("export.py", *arguments)
             self.assertEqual((done.returncode, done.stdout), (1, b""), arguments)
             self.assertEqual(done.stderr.count(b"\n"), 1, arguments)
+
+    def test_no_set(self):
+        for script, *output in (["contents.py"], ["picture.py"], ["export.py", "no/such/set.ply"]):
+            for name, why in (("no/such/file.set", "No such file or directory"), (ROOT, "Is a directory")):
+                done = run(script, name, *output)
+                self.assertEqual((done.returncode, done.stdout), (1, b""), script)
+                self.assertEqual(done.stderr.decode(), "%s: %s\n" % (name, why))
+
+    def test_no_output(self):
+        """The output cannot be opened, or opens and cannot be written."""
+        full = Path(self.folder.name) / "full.ply"
+        full.symlink_to("/dev/full")
+        for output, why in (("no/such/set.ply", "No such file or directory"), (full, "No space left on device")):
+            done = run("export.py", HARNESS, output)
+            self.assertEqual((done.returncode, done.stdout), (1, b""), output)
+            self.assertEqual(done.stderr.decode(), "%s: %s\n" % (output, why))
 
 
 @unittest.skipUnless(outside.HAS_ASSIMP, "assimp is not installed: its reading was not compared")

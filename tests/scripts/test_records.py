@@ -133,12 +133,22 @@ def drawn_sizes(drawn, kind):
     return {name: sizes[name] for name in drawn.sample(names, len(names))}
 
 
+# Lengths just inside and just outside the bounds of a segment (12), with room for the rounding.
+NEAR_BOUNDS = [bound * factor for bound in (2**-20, 2**40) for factor in (1 - 1e-5, 1 + 1e-5)]
+# Seven times a unit vector.
+SEVENS = [(7, 0, 0), (0, -7, 0), (2, 3, 6), (-6, 2, 3)]
+
+
 def drawn_points(drawn):
-    """Up to 20 steps, a few of which stand still, go back or go very far."""
+    """Up to 20 steps, a few of which stand still, go back, go very far or are near a bound (12)."""
     at, step, points = [0.0, 0.0, 0.0], [10.0, 0.0, 0.0], []
     for _ in range(drawn.choice([0, 1, 2, 2, 3, 4, 9, 20])):
-        points.append(" ".join("%.6g" % x for x in at))
-        if drawn.random() < 0.04:
+        points.append(" ".join("%.9g" % x for x in at))
+        # From the origin alone: anywhere else the sum would round a short step away.
+        if not any(at) and drawn.random() < 0.1:
+            length = drawn.choice(NEAR_BOUNDS)
+            step = [length * x / 7 for x in drawn.choice(SEVENS)]
+        elif drawn.random() < 0.04:
             step = drawn.choice([[0.0] * 3, [-x for x in step], [2e12, 0.0, 0.0]])
         else:
             step = [10 + 4 * drawn.random(), 6 * drawn.random(), 6 * drawn.random()]
@@ -160,9 +170,20 @@ def drawn_body(drawn):
     return text, expected
 
 
-class Drawn(unittest.TestCase):
-    def test_warnings(self):
-        """The bodies without a warning are those that `sweep` has taken, one by one."""
+class Warnings(unittest.TestCase):
+    def compared(self, bodies):
+        """The bodies without a warning are those that `sweep` takes, one by one; the warnings."""
+        warnings = dict(limits.warnings(bodies))
+        with tempfile.NamedTemporaryFile() as file:
+            file.write(swept(b"".join(map(records.record, bodies))))
+            file.flush()
+            shown = contents.read(file.name).bodies
+        told = [b for b in bodies if b.line not in warnings]
+        self.assertEqual([(NUMBERS[b.kind],) + limits.counts(b) for b in told],
+                         [(b.kind, b.vertices, b.triangles) for b in shown])
+        return warnings
+
+    def test_drawn(self):
         drawn, warned, taken, numbers = random.Random(2), 0, 0, set()
         for _ in range(400):
             lines, expected = [], b""
@@ -172,18 +193,23 @@ class Drawn(unittest.TestCase):
                 expected += record
             bodies = records.parse(lines)
             self.assertEqual(b"".join(map(records.record, bodies)), expected)
-            warnings = dict(limits.warnings(bodies))
-            with tempfile.NamedTemporaryFile() as file:
-                file.write(swept(expected))
-                file.flush()
-                shown = contents.read(file.name).bodies
-            told = [b for b in bodies if b.line not in warnings]
-            self.assertEqual([(NUMBERS[b.kind],) + limits.counts(b) for b in told],
-                             [(b.kind, b.vertices, b.triangles) for b in shown])
-            warned, taken = warned + len(warnings), taken + len(shown)
+            warnings = self.compared(bodies)
+            warned, taken = warned + len(warnings), taken + len(bodies) - len(warnings)
             numbers.update(why.split("(")[-1] for why in warnings.values())
         print("%d bodies taken, %d with a warning" % (taken, warned))
         self.assertEqual(numbers, {n + ")" for n in ("2", "3", "4", "10", "12", "13", "20", "21", "22")})
+
+    def test_room(self):
+        """Bodies that fill the 4,096 vertices exactly, and a body that would exceed them by one."""
+        ribbon, tube = "ribbon width 1", "tube divisions 3 radius 1"
+        most = [(ribbon, 512)] * 3 + [(ribbon, 508)]  # 4,088 vertices, 4,080 triangles
+        for last, total in (([(ribbon, 4), (ribbon, 2)], 4100), ([(tube, 3)], 4097)):
+            lines = []
+            for head, points in most + last:
+                lines += [head] + ["%d 0 0" % x for x in range(points)]
+            bodies = records.parse(lines)
+            why = "the set would have %d vertices, and has room for 4096 (3)" % total
+            self.assertEqual(self.compared(bodies), {bodies[-1].line: why})
 
     def test_told(self):
         """A warning names file and line, and the record is written."""
