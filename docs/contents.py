@@ -39,7 +39,8 @@ def read(name=None):
 def main():
     shown = read(*sys.argv[1:2])
     counts = len(shown.bodies), len(shown.vertices), len(shown.triangles)
-    print("%d bodies, %d vertices, %d triangles" % counts)
+    bodies = "body" if counts[0] == 1 else "bodies"
+    print("%d %s, %d vertices, %d triangles" % (counts[0], bodies, *counts[1:]))
     titles = "", "kind", "n", "first vertex", "vertices", "first triangle", "triangles"
     print("%3s  %-15s %4s %13s %9s %15s %10s" % titles)
     for place, body in enumerate(shown.bodies):

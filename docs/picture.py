@@ -8,13 +8,15 @@
 import math
 import sys
 
-from contents import read
+from contents import KINDS, read
 
 # The viewer's place: degrees round the vertical axis y, then upwards.
 ROUND, UP = 28, 24
 WIDTH = 960
 MARGIN = 12
 LIGHT = (-0.42, 0.78, 0.46)
+# Bodies without an opening: nobody sees their inner side.
+CLOSED = {"capsule", "torus", "closed cylinder"}
 # Middling colours, legible on a white page and on a dark one.
 COLOURS = [
     (164, 172, 182), (226, 92, 64), (66, 140, 222), (240, 178, 56), (80, 178, 120),
@@ -64,17 +66,27 @@ def shade(colour, normal):
     return "#%02x%02x%02x" % tuple(int(part) for part in mixed)
 
 
+def depth(corners, kind, inside):
+    """How near the viewer a face is painted: by its middle. A tube's inner side goes by its farthest
+    corner, so that it never lies over the outer side before it."""
+    heights = [corner[2] for corner in corners]
+    return min(heights) if kind == "tube" and inside else sum(heights) / 3
+
+
 def faces(shown, body, colour, points):
-    """The depth, the colour and the corners of each face of a body."""
+    """The depth, the colour and the corners of each face of a body that can be seen."""
+    kind = KINDS[body.kind]
     first = body.first_triangle
     for triangle in shown.triangles[first:first + body.triangles]:
-        a, b, c = (points[index] for index in triangle)
+        a, b, c = corners = tuple(points[index] for index in triangle)
         normal = cross(minus(b, a), minus(c, a))
         length = math.sqrt(dot(normal, normal))
-        if length == 0:
+        # Faces look outwards: one that looks away from the viewer shows its inner side.
+        inside = normal[2] < 0
+        if length == 0 or inside and kind in CLOSED:
             continue
         normal = scaled(normal, math.copysign(1 / length, normal[2]))
-        yield (a[2] + b[2] + c[2]) / 3, shade(colour, normal), (a, b, c)
+        yield depth(corners, kind, inside), shade(colour, normal), corners
 
 
 def text(number):
