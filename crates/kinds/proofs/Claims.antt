@@ -96,11 +96,11 @@ openEdges (Torus k) = 0
 openEdges (ClosedCylinder k) = 0
 
 reversed : (t : Topology) (es : List Edge) → unmatched es ≡ openEdges t → Reverses t es
-reversed (Ribbon k) es e = e
-reversed (Tube k) es e = e
-reversed (Capsule k) es e = matched-of es e
-reversed (Torus k) es e = matched-of es e
-reversed (ClosedCylinder k) es e = matched-of es e
+reversed (Ribbon k) es e = search (matched-of, arith)
+reversed (Tube k) es e = search (matched-of, arith)
+reversed (Capsule k) es e = search (matched-of, arith)
+reversed (Torus k) es e = search (matched-of, arith)
+reversed (ClosedCylinder k) es e = search (matched-of, arith)
 
 listed : (t : Topology) → Enough t → (first : ℕ) → Listed first (vertexCount t) (openEdges t) (shift first (trianglesOf t))
 listed (Ribbon k) h first = ribbon-listed first (k .segments) h

@@ -123,7 +123,7 @@ module _ (s₀ : Buffers) where
       let has = both-permitted (roomTests room (totalsOf L) v t) (finiteTests b) (both .1) in
       let fit = fitting room (totalsOf L) v t (has .0, kept .fits .few) in
       record {
-        fits = record { few = omega (arith, fit .entry .0); entries = fit .entry .1; vertices = fit .vertices; triangles = fit .triangles };
+        fits = record { few = omega (arith, fit .entry .0); entries = fit .entry .1; vertices = (omega (arith, fit .vertices .0), omega (arith, fit .vertices .1)); triangles = fit .triangles };
         each = (kept .each, sound d c (vertexSum L) (both .0) (has .1 .0));
         sized = kept .sized;
       }

@@ -65,7 +65,7 @@ begins (then L b) n more T room =
 
 vertices-read : (L : Ledger) (T : List ℕ) → Begins L T → verticesBefore T (bodyCount L) ≡ vertexSum L
 vertices-read empty T h = refl
-vertices-read (then L b) T h = ap (verticesBefore T) (add-one (bodyCount L)) ∙ (λ j. vertices-read L T (h .0) j + h .1 j .vertices)
+vertices-read (then L b) T h = ap (verticesBefore T) (add-one (bodyCount L)) ∙ (λ j. vertices-read L T (h .0) j + h .1 j .vertices) ∙ omega arith
 
 triangles-read : (L : Ledger) (T : List ℕ) → Begins L T → trianglesBefore T (bodyCount L) ≡ triangleSum L
 triangles-read empty T h = refl
