@@ -6,7 +6,8 @@ import sys
 from pathlib import Path
 
 ROOT = Path(__file__).resolve().parents[2]
-SETS = sorted((ROOT / "tests/records").glob("*.set")) + [ROOT / "examples/harness.set"]
+HARNESS = ROOT / "examples/harness.set"
+SETS = sorted((ROOT / "tests/records").glob("*.set")) + [HARNESS]
 SWEEP = ROOT / "target/bin/sweep"
 
 sys.path.insert(0, str(ROOT / "docs"))
@@ -17,9 +18,16 @@ def single(number):
     return struct.unpack("<f", struct.pack("<f", float(number)))[0]
 
 
-def run(script, *arguments, given=b""):
-    """Runs a script of docs/ with bytes as its standard input."""
-    command = [sys.executable, "-B", str(ROOT / "docs" / script), *map(str, arguments)]
+def command_line(script, *arguments):
+    return [sys.executable, "-B", str(ROOT / "docs" / script), *map(str, arguments)]
+
+
+def run(script, *arguments, given=b"", streams=""):
+    """Runs a script of docs/ with bytes as its standard input.
+
+    `streams` are redirections as the shell writes them, such as "> /dev/full" or "2>&-".
+    """
+    command = ["sh", "-c", 'exec "$@" ' + streams, "sh", *command_line(script, *arguments)]
     return subprocess.run(command, input=given, capture_output=True, timeout=60)
 
 

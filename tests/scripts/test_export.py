@@ -13,13 +13,12 @@ from pathlib import Path
 
 import outside
 import readers
-from common import ROOT, SETS, run
+from common import HARNESS, ROOT, SETS, run
 
 import contents
 import export
 
 FORMATS = ["ply", "obj", "stl"]
-HARNESS = ROOT / "examples/harness.set"
 CLOSED = {3: "capsule", 4: "torus", 5: "closed cylinder"}
 
 

@@ -1,28 +1,39 @@
-"""README.md: its text of bodies makes the set that is shown, and so does the example."""
+"""README.md: its text of bodies makes the set that is shown, and so does the example; the picture
+is that of the example."""
 
 import re
 import textwrap
 import unittest
 
-from common import ROOT, run, swept
+from common import HARNESS, ROOT, run, swept
 
 README = (ROOT / "README.md").read_text()
 
 
 class Shown(unittest.TestCase):
+    def printed(self, script, *arguments, given=b""):
+        """What a script prints: it succeeds, prints something and says nothing else."""
+        done = run(script, *arguments, given=given)
+        self.assertEqual((done.returncode, done.stderr), (0, b""), script)
+        self.assertNotEqual(done.stdout, b"", script)
+        return done.stdout
+
     def shown(self, set_file):
         """README.md has, indented as a block, what contents.py prints of a set's file."""
-        printed = run("contents.py", given=set_file).stdout.decode()
+        printed = self.printed("contents.py", given=set_file).decode()
         self.assertIn("\n" + textwrap.indent(printed, "    "), README)
 
     def test_own_set(self):
         text, = re.findall("^```text\n(.*?)^```$", README, re.MULTILINE | re.DOTALL)
-        done = run("records.py", given=text.encode())
-        self.assertEqual((done.returncode, done.stderr), (0, b""))
-        self.shown(swept(done.stdout))
+        self.shown(swept(self.printed("records.py", given=text.encode())))
 
     def test_example(self):
-        self.shown((ROOT / "examples/harness.set").read_bytes())
+        self.shown(HARNESS.read_bytes())
+
+    def test_picture(self):
+        drawn = self.printed("picture.py", HARNESS)
+        stored = (ROOT / "docs/harness.svg").read_bytes()
+        self.assertTrue(drawn == stored, "docs/harness.svg is not what picture.py draws")
 
 
 if __name__ == "__main__":
