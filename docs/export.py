@@ -15,6 +15,7 @@ import sys
 from collections import namedtuple
 from pathlib import Path
 
+import command
 from contents import KINDS, read
 from picture import COLOURS, cross, minus, scaled
 
@@ -87,20 +88,16 @@ FORMATS = {"ply": ply, "obj": obj, "stl": stl}
 
 
 def main():
-    arguments = sys.argv[1:]
-    ending = Path(arguments[1]).suffix[1:].lower() if len(arguments) in (2, 3) else None
+    name, output, place = command.arguments(__doc__, "SET OUTPUT [BODY]")
+    ending = Path(output).suffix[1:].lower()
     if ending not in FORMATS:
-        sys.exit("usage: export.py SET OUTPUT [BODY], where OUTPUT ends in .ply, .obj or .stl")
-    chosen = list(parts(read(arguments[0])))
-    if arguments[2:]:
-        chosen = [part for part in chosen if str(part.place) == arguments[2]]
+        sys.exit("%s: the output's name must end in .ply, .obj or .stl" % output)
+    chosen = list(parts(read(name)))
+    if place:
+        chosen = [part for part in chosen if str(part.place) == place]
         if not chosen:
-            sys.exit("%s has no body %s" % (arguments[0], arguments[2]))
-    try:
-        with open(arguments[1], "w", encoding="ascii") as output:
-            output.writelines(line + "\n" for line in FORMATS[ending](chosen))
-    except OSError as why:
-        sys.exit("%s: %s" % (arguments[1], why.strerror))
+            sys.exit("%s has no body %s" % (name, place))
+    command.write("".join(line + "\n" for line in FORMATS[ending](chosen)).encode(), output)
 
 
 if __name__ == "__main__":

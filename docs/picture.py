@@ -8,6 +8,7 @@
 import math
 import sys
 
+import command
 from contents import KINDS, read
 
 # The viewer's place: degrees round the vertical axis y, then upwards.
@@ -67,8 +68,8 @@ def shade(colour, normal):
 
 
 def depth(corners, kind, inside):
-    """How near the viewer a face is painted: by its middle. A tube's inner side goes by its farthest
-    corner, so that it never lies over the outer side before it."""
+    """How near the viewer a face is painted: by its middle. A tube's inner side goes by its
+    farthest corner, so that it never lies over the outer side before it."""
     heights = [corner[2] for corner in corners]
     return min(heights) if kind == "tube" and inside else sum(heights) / 3
 
@@ -126,5 +127,10 @@ def picture(shown):
     return "\n".join(lines + ["</g>", "</svg>", ""])
 
 
+def main():
+    name, = command.arguments(__doc__, "[SET]")
+    command.write(picture(read(name)).encode())
+
+
 if __name__ == "__main__":
-    sys.stdout.write(picture(read(*sys.argv[1:2])))
+    main()

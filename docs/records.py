@@ -28,8 +28,10 @@ import struct
 import sys
 from collections import namedtuple
 from decimal import Decimal
+from io import BytesIO, TextIOWrapper
 from itertools import zip_longest
 
+import command
 from contents import KINDS
 from limits import warnings
 
@@ -162,18 +164,16 @@ def record(body):
 
 
 def main():
-    name = sys.argv[1] if sys.argv[1:] else "standard input"
+    name, = command.arguments(__doc__, "[TEXT]")
+    data = BytesIO(command.read(name))
+    name = name or "standard input"
     try:
-        with open(name if sys.argv[1:] else 0, encoding="utf-8-sig", errors="replace") as lines:
-            bodies = parse(lines)
-    except OSError as why:
-        sys.exit("%s: %s" % (name, why.strerror))
+        bodies = parse(TextIOWrapper(data, encoding="utf-8-sig", errors="replace"))
     except Mistake as mistake:
         sys.exit("%s:%s" % (name, mistake))
     for line, why in warnings(bodies):
-        told = "%s:%d: warning: `sweep` will skip this body: %s" % (name, line, why)
-        print(told, file=sys.stderr)
-    sys.stdout.buffer.write(b"".join(map(record, bodies)))
+        command.warn("%s:%d: warning: `sweep` will skip this body: %s" % (name, line, why))
+    command.write(b"".join(map(record, bodies)))
 
 
 if __name__ == "__main__":

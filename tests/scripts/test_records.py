@@ -218,6 +218,11 @@ class Warnings(unittest.TestCase):
         self.assertEqual(done.stderr.decode(), "standard input:5: warning: `sweep` will skip this body: "
                          "its divisions are outside 3 to 256 (20)\n")
 
+    def test_told_to_nobody(self):
+        """With standard error closed, a warning does not get among the records."""
+        done = run("records.py", given=b"tube radius 1 divisions 2\n0 0 0\n0 0 1", streams="2>&-")
+        self.assertEqual((done.returncode, len(done.stdout)), (0, 28 + 24))
+
 
 if __name__ == "__main__":
     unittest.main()
