@@ -19,7 +19,8 @@ each x y z, in the unit of the sizes. A comment runs from # to the end of its li
                      y = 0, or has its middle there where `centred yes` is given
 
 A mistake in the text is reported with its line, and then nothing is written. A body that `sweep`
-will skip is written all the same, and a warning says why.
+will skip is written all the same. A warning says why, unless the body's vertices overflow (23) or
+a mere rounding decides.
 """
 
 import math

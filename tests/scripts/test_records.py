@@ -223,6 +223,15 @@ class Warnings(unittest.TestCase):
         done = run("records.py", given=b"tube radius 1 divisions 2\n0 0 0\n0 0 1", streams="2>&-")
         self.assertEqual((done.returncode, len(done.stdout)), (0, 28 + 24))
 
+    def test_overflow(self):
+        """Vertices that overflow (23) get no warning, and the texts that promise one say so."""
+        bodies = records.parse(["tube divisions 3 radius 3e38", "3e38 0 0", "3e38 0 9"])
+        self.assertEqual(list(limits.warnings(bodies)), [])
+        self.assertEqual(swept(records.record(bodies[0])), (ROOT / "tests/records/empty.set").read_bytes())
+        said = "unless the body's vertices overflow (23)"
+        for text in (records.__doc__, (ROOT / "README.md").read_text()):
+            self.assertTrue(said in " ".join(text.split()), said)
+
 
 if __name__ == "__main__":
     unittest.main()
