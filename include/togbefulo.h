@@ -146,7 +146,7 @@
 #define TOGBEFULO_ENTRY_FIRST_TRIANGLE 4u
 #define TOGBEFULO_ENTRY_TRIANGLES 5u
 
-/* In front of its coordinates a record has this many words, and its curve has at most so many vertices. */
+/* The words of a record before its coordinates, and the most vertices that its curve may have. */
 #define TOGBEFULO_RECORD_HEAD_WORDS 7u
 #define TOGBEFULO_RECORD_VERTICES 512u
 

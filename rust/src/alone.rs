@@ -31,7 +31,7 @@ impl Counts {
 }
 
 impl Description {
-    /// The counts of this body along a curve of so many vertices.
+    /// The counts of this body along a curve of `curve_vertices` vertices.
     ///
     /// Refused are [`Refusal::CurveVertices`], [`Divisions`](Refusal::Divisions), [`Layers`](Refusal::Layers) and
     /// [`Size`](Refusal::Size), in this order.
@@ -92,8 +92,9 @@ impl Description {
         }
     }
 
-    /// Writes the triangles of this body along a curve of so many vertices to the front of `out`, as many words as
-    /// [`Counts::words`] says, and leaves the rest. A triangle is three vertex numbers, with `first` added to each.
+    /// Writes the triangles of this body along a curve of `curve_vertices` vertices to the front of
+    /// `out`, as many words as [`Counts::words`] says, and leaves the rest. A triangle is three
+    /// vertex numbers, with `first` added to each.
     ///
     /// Refused is, with nothing written, what [`counts`](Description::counts) refuses, then [`Refusal::NoVertices`]
     /// where a vertex would have the number 2^28 or above, and [`Refusal::NoTriangles`] where `out` is too short.

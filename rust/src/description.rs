@@ -190,7 +190,7 @@ impl Description {
         }
     }
 
-    /// Of a description that is permitted with so many curve vertices, which has no number above 4096.
+    /// Of a description that is permitted with `curve_vertices`, which has no number above 4096.
     pub(crate) fn grid(self, curve_vertices: usize) -> Grid {
         let Fields {
             divisions, steps, ..

@@ -14,7 +14,7 @@ const ENTRY_WORDS: usize = 6;
 /// How many words a table for [`MOST_BODIES`] has.
 pub const TABLE_WORDS: usize = table_words(MOST_BODIES);
 
-/// How many words a table for so many bodies has.
+/// How many words a table for `bodies` bodies has.
 pub const fn table_words(bodies: usize) -> usize {
     1 + ENTRY_WORDS * bodies
 }

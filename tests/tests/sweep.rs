@@ -144,3 +144,13 @@ fn bytes_after_the_last_record() {
     compare(&run, &both, &sweep::sweep(&both), "two records");
     assert!(run.written != set, "two records");
 }
+
+/// Nothing but the input's end ends the reading: records of no kind, as many as no stored file has, then a good one.
+#[test]
+fn many_records() {
+    let [sample, set] = stored("sample");
+    let unknown = sweep::bytes(&[9, 0, 0, 0, 0, 0, 0]);
+    let input = [unknown.repeat(200_000), sample].concat();
+    let run = piped(&input, usize::MAX, Duration::ZERO);
+    compare(&run, &input, &set, "200,000 records of no kind before it");
+}

@@ -99,7 +99,7 @@ module _ (outside : Outside) where
             push tri2vtx (triangle i0 i1 i2),
       ) tri2vtx
 
-  -- line 160
+  -- line 160. `length` is the source's name for the cylinder's length; that of a list is `len`.
   unfoldable pub cylinder-closed-end-yup : Float → Float → ℕ → ℕ → Bool → TriMesh
   cylinder-closed-end-yup radius length ndiv-circumference ndiv-length is-center =
       let num-vtx = ndiv-circumference * (ndiv-length + 1) + 2 in

@@ -1,7 +1,8 @@
 // Loads bodies into the shared set, each between two others, since a ring that is written too far
 // shows only in a neighbour. It compares every element of the buffers: each body with the same body
 // alone, what lies past them with what it held before. First comes each kind between each two
-// kinds, then bodies drawn by a small generator, and a line is printed for each of the two. What it
+// kinds, then bodies drawn by a small generator, and a line is printed for each of the two. A third
+// line is of words of which two are wrong, so that a comparison which finds nothing shows. What it
 // must print was made outside Rattle, by tests/src/bin/neighbours.rs from document 01's counts.
 mod compare;
 mod loading;
@@ -9,6 +10,7 @@ mod markers;
 mod placed;
 mod tally;
 
+use crate::compare::compare_wrong;
 use crate::loading::load;
 use crate::tally::Tally;
 use drawn_bodies::drawn_triple;
@@ -56,4 +58,5 @@ fn print_line(name: &[u8], triples: u32, tally: Tally) {
 fn main() {
     print_line(b"kinds: ", TRIPLES_OF_KINDS, load_kinds());
     print_line(b"drawn: ", DRAWN_TRIPLES, load_drawn());
+    print_line(b"wrong: ", 0, compare_wrong());
 }

@@ -57,7 +57,9 @@ enum-known-end : tie.Need-enum-known-end Inv-loop μ-loop
 enum-known-end c = search needs
 
 slice-reshare-prefix-add-record : tie.Need-slice-reshare-prefix-add-record Inv-loop μ-loop
-slice-reshare-prefix-add-record c = (rw (c .before .end .given .1) at (c .before .before .before .before .before .before .before .read-record .ensures)) .1
+slice-reshare-prefix-add-record c =
+    let read = rw (c .before .end .given .1) at (c .before .before .before .before .before .before .before .read-record .ensures) in
+    omega (arith, read .1)
 
 slice-aggregate-add-record : tie.Need-slice-aggregate-add-record Inv-loop μ-loop
 slice-aggregate-add-record c = sym (length-take-le _ _ (slice-reshare-prefix-add-record (c .before)))
