@@ -93,6 +93,8 @@ def main():
     if ending not in FORMATS:
         sys.exit("%s: the output's name must end in .ply, .obj or .stl" % output)
     chosen = list(parts(read(name)))
+    if not chosen:
+        sys.exit("%s: the set is empty" % name)
     if place:
         chosen = [part for part in chosen if str(part.place) == place]
         if not chosen:

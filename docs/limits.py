@@ -35,8 +35,10 @@ def counts(body):
 
 def wrong_numbers(body):
     """What is wrong with the numbers of a body."""
-    if len(body.points) < LEAST_POINTS[body.kind]:
-        yield "it has %d points, and needs %d (10)" % (len(body.points), LEAST_POINTS[body.kind])
+    points, least = len(body.points), LEAST_POINTS[body.kind]
+    if points < least:
+        told = "it has %d point%s, and needs at least %d (10)"
+        yield told % (points, "" if points == 1 else "s", least)
     for name, (least, most, number) in RANGES.items():
         if not least <= body.sizes.get(name, least) <= most:
             yield "its %s are outside %d to %d (%d)" % (name, least, most, number)
@@ -53,18 +55,28 @@ def segments(body):
     return [tuple(b - a for a, b in zip(*ends)) for ends in zip(body.points, after)]
 
 
+def wrong_length(body, place, length):
+    """What is wrong with the segment from a point, counted from 0, to the next."""
+    line = body.lines[place]
+    if length == 0 and place == len(body.points) - 1:
+        return "its last point, line %d, repeats its first, to which it is joined anyway (12)" % line
+    if length == 0:
+        return "its points of the lines %d and %d are the same (12)" % (line, body.lines[place + 1])
+    told = "the segment from its point of line %d is %.3g long: %s (12)"
+    return told % (line, length, "about 9.54e-07 to 1.1e+12 is permitted")
+
+
 def wrong_curve(body):
     """What is wrong with the curve of a body."""
     lengths = [math.hypot(*segment) for segment in segments(body)]
-    for place, length in enumerate(lengths, 1):
+    for place, length in enumerate(lengths):
         if not 2**-20 <= length <= 2**40:
-            told = "the segment that begins at its point %d is %.3g long: %s (12)"
-            yield told % (place, length, "about 9.54e-07 to 1.1e+12 is permitted")
+            yield wrong_length(body, place, length)
             return
     units = [[x / length for x in segment] for segment, length in zip(segments(body), lengths)]
-    for place, (u, w) in enumerate(zip(units, units[1:]), 2):
+    for place, (u, w) in enumerate(zip(units, units[1:]), 1):
         if 1 + sum(a * b for a, b in zip(u, w)) < 2**-12:
-            yield "its curve folds back on itself at point %d (13)" % place
+            yield "its curve folds back on itself at its point of line %d (13)" % body.lines[place]
 
 
 def no_room(body, totals):

@@ -1,5 +1,5 @@
 #!/usr/bin/env python3
-"""Draws a set's file as an SVG picture: each body in its own colour, seen from above and one side.
+"""Draws a set's file as an SVG picture: bodies in nine colours, seen from above and one side.
 
     python3 docs/picture.py examples/harness.set > docs/harness.svg
     target/bin/sweep < tests/records/sample.records | python3 docs/picture.py > sample.svg
@@ -13,7 +13,8 @@ from contents import KINDS, read
 
 # The viewer's place: degrees round the vertical axis y, then upwards.
 ROUND, UP = 28, 24
-WIDTH = 960
+# What the picture fits into, and a margin within.
+WIDTH, HEIGHT = 960, 960
 MARGIN = 12
 LIGHT = (-0.42, 0.78, 0.46)
 # Bodies without an opening: nobody sees their inner side.
@@ -109,8 +110,9 @@ def picture(shown):
         sys.exit("the set is empty")
     points = [seen(vertex) for vertex in shown.vertices]
     left, top = min(p[0] for p in points), max(p[1] for p in points)
-    scale = (WIDTH - 2 * MARGIN) / (max(p[0] for p in points) - left or 1)
-    height = (top - min(p[1] for p in points)) * scale + 2 * MARGIN
+    across, down = max(p[0] for p in points) - left, top - min(p[1] for p in points)
+    scale = min((WIDTH - 2 * MARGIN) / (across or 1), (HEIGHT - 2 * MARGIN) / (down or 1))
+    width, height = round(across * scale) + 2 * MARGIN, down * scale + 2 * MARGIN
     left, top = left - MARGIN / scale, top + MARGIN / scale
     # The farthest faces are painted first.
     painted = sorted(
@@ -118,7 +120,7 @@ def picture(shown):
         for place, body in enumerate(shown.bodies)
         for face in faces(shown, body, COLOURS[place % len(COLOURS)], points)
     )
-    lines = ['<svg xmlns="http://www.w3.org/2000/svg" viewBox="0 0 %d %d">' % (WIDTH, height)]
+    lines = ['<svg xmlns="http://www.w3.org/2000/svg" viewBox="0 0 %d %d">' % (width, height)]
     # A thin stroke in the face's own colour, so that no seam shows between two faces.
     lines.append('<g stroke-width=".7" stroke-linejoin="round">')
     for _, colour, corners in painted:

@@ -46,10 +46,11 @@ SIZES = {
 }
 MOST_POINTS = 512  # `sweep` stops reading at a record of more.
 LARGEST_WORD = 2**32 - 1
-NUMBER = re.compile(r"[+-]?([0-9]+\.?[0-9]*|\.[0-9]+)(e[+-]?[0-9]+)?")
+NUMBER = re.compile(r"[+-]?([0-9]+\.?[0-9]*|\.[0-9]+)([eE][+-]?[0-9]+)?")
 
-# The number of its line, its kind, its sizes by name, and its points: triples of floats.
-Body = namedtuple("Body", "line kind sizes points")
+# The number of its line, its kind, its sizes by name, its points (triples of floats), and the
+# numbers of their lines.
+Body = namedtuple("Body", "line kind sizes points lines")
 
 
 class Mistake(Exception):
@@ -82,15 +83,17 @@ def finite(text):
 
 
 def whole(text):
-    if not re.fullmatch("[0-9]+", text) or int(text) > LARGEST_WORD:
-        raise ValueError("'%s' is not a whole number from 0 to %d" % (text, LARGEST_WORD))
+    if not re.fullmatch("[0-9]+", text):
+        raise ValueError("'%s' is not a whole number such as 12" % text)
+    if int(text) > LARGEST_WORD:
+        raise ValueError("'%s' is too large" % text)
     return int(text)
 
 
 def yes_or_no(text):
-    if text not in ("yes", "no"):
+    if text.lower() not in ("yes", "no"):
         raise ValueError("'%s' is neither yes nor no" % text)
-    return text == "yes"
+    return text.lower() == "yes"
 
 
 VALUES = {"divisions": whole, "longitudes": whole, "layers": whole, "centred": yes_or_no}
@@ -99,15 +102,18 @@ VALUES = {"divisions": whole, "longitudes": whole, "layers": whole, "centred": y
 def kind_of(words):
     """The kind that a line begins with."""
     for kind in SIZES:
-        if words[:len(kind.split())] == kind.split():
+        if [word.lower() for word in words[:len(kind.split())]] == kind.split():
             return kind
-    raise ValueError("unknown body '%s': expected %s" % (words[0], ", ".join(SIZES)))
+    told = "unknown body '%s': expected %s, or a point x y z"
+    raise ValueError(told % (words[0], ", ".join(SIZES)))
 
 
 def sizes_of(kind, words):
     """The sizes in the words behind a kind: names and values in turn."""
     sizes = {}
-    for name, value in zip_longest(words[::2], words[1::2]):
+    for name, value in zip_longest(map(str.lower, words[::2]), words[1::2]):
+        if "=" in name:
+            raise ValueError("'%s': write %s" % (name, " ".join(name.split("="))))
         if name not in SIZES[kind]:
             expected = ", ".join(SIZES[kind])
             raise ValueError("a %s has no size '%s': expected %s" % (kind, name, expected))
@@ -125,7 +131,7 @@ def sizes_of(kind, words):
     return sizes
 
 
-def add_point(body, words):
+def add_point(body, words, line):
     if body is None:
         raise ValueError("a point before the first body: expected %s" % ", ".join(SIZES))
     if body.kind == "closed cylinder":
@@ -133,21 +139,25 @@ def add_point(body, words):
     if len(words) != 3:
         raise ValueError("a point has three coordinates, x y z; here are %d" % len(words))
     if len(body.points) == MOST_POINTS:
-        raise ValueError("more than %d points, where `sweep` stops reading" % MOST_POINTS)
+        raise ValueError("a body has at most %d points: `sweep` reads no more" % MOST_POINTS)
     body.points.append(tuple(finite(word) for word in words))
+    body.lines.append(line)
 
 
 def parse(lines):
     """The bodies of a text."""
     bodies = []
     for line, text in enumerate(lines, 1):
-        words = text.split("#")[0].lower().split()
+        text = text.split("#")[0]
+        words = text.split()
         try:
+            if "," in text:
+                raise ValueError("words and numbers are separated by spaces, not by commas")
             if words and words[0][0].isalpha():
                 kind = kind_of(words)
-                bodies.append(Body(line, kind, sizes_of(kind, words[len(kind.split()):]), []))
+                bodies.append(Body(line, kind, sizes_of(kind, words[len(kind.split()):]), [], []))
             elif words:
-                add_point(bodies[-1] if bodies else None, words)
+                add_point(bodies[-1] if bodies else None, words, line)
         except ValueError as why:
             raise Mistake("%d: %s" % (line, why)) from None
     return bodies
@@ -166,12 +176,16 @@ def record(body):
 
 def main():
     name, = command.arguments(__doc__, "[TEXT]")
-    data = BytesIO(command.read(name))
+    data = command.read(name)
     name = name or "standard input"
+    if b"\0" in data:
+        sys.exit("%s: this is not a text in UTF-8" % name)
     try:
-        bodies = parse(TextIOWrapper(data, encoding="utf-8-sig", errors="replace"))
+        bodies = parse(TextIOWrapper(BytesIO(data), encoding="utf-8-sig", errors="replace"))
     except Mistake as mistake:
         sys.exit("%s:%s" % (name, mistake))
+    if not bodies:
+        sys.exit("%s: there is no body in this text" % name)
     for line, why in warnings(bodies):
         command.warn("%s:%d: warning: `sweep` will skip this body: %s" % (name, line, why))
     command.write(b"".join(map(record, bodies)))

@@ -59,17 +59,19 @@ class Written(unittest.TestCase):
 
 class Readers(Written):
     def test_sets(self):
-        bodies = 0
+        bodies, sets = 0, 0
         for name in SETS:
             shown = contents.read(name)
+            if not shown.bodies:
+                continue
             for ending in FORMATS:
                 text = self.written(name, ending).read_text()
                 found, vertices = getattr(readers, ending)(text)
                 self.same(found, list(objects_of(shown)))
                 if ending != "stl":
                     self.assertEqual(words([vertices]), words([shown.vertices]))
-            bodies += len(shown.bodies)
-        print("%d bodies of %d sets read back in %s" % (bodies, len(SETS), ", ".join(FORMATS)))
+            bodies, sets = bodies + len(shown.bodies), sets + 1
+        print("%d bodies of %d sets read back in %s" % (bodies, sets, ", ".join(FORMATS)))
 
     def test_any_floats(self):
         """Zeros of both signs, subnormals and the largest numbers come back as the same bits."""
@@ -104,7 +106,8 @@ class Readers(Written):
 
     def test_refused(self):
         for arguments in ([], [HARNESS], [HARNESS, "x.txt"], [HARNESS, "ply"], [HARNESS, "x.stl", "9"],
-                          [HARNESS, "x.stl", "1", "2"], [ROOT / "examples/harness.txt", "x.stl"]):
+                          [HARNESS, "x.stl", "1", "2"], [ROOT / "examples/harness.txt", "x.stl"],
+                          [ROOT / "tests/records/empty.set", "x.ply"]):
             done = run("export.py", *arguments)
             self.assertEqual((done.returncode, done.stdout), (1, b""), arguments)
             self.assertEqual(done.stderr.count(b"\n"), 1, arguments)

@@ -35,6 +35,13 @@ class Shown(unittest.TestCase):
         stored = (ROOT / "docs/harness.svg").read_bytes()
         self.assertTrue(drawn == stored, "docs/harness.svg is not what picture.py draws")
 
+    def test_upright(self):
+        """A picture fits into a square of 960, however slender what it shows."""
+        text = b"closed cylinder divisions 8 layers 1 radius 1 length 1000"
+        drawn = self.printed("picture.py", given=swept(self.printed("records.py", given=text)))
+        (width, height), = re.findall(rb'viewBox="0 0 (\d+) (\d+)"', drawn)
+        self.assertTrue(24 < int(width) < 40 and int(height) == 960, (width, height))
+
 
 if __name__ == "__main__":
     unittest.main()

@@ -32,7 +32,8 @@ class Numbers(unittest.TestCase):
                 self.assertEqual(records.single("-" + decimal(value)), -expected)
 
     def test_plain(self):
-        plain = {"12": 12, "-0.5": -0.5, "+3.": 3, ".25": 0.25, "1e3": 1000, "1e-99999999999999999999": 0}
+        plain = {"12": 12, "-0.5": -0.5, "+3.": 3, ".25": 0.25, "1e3": 1000, "1E3": 1000,
+                 "1e-99999999999999999999": 0}
         for text, value in plain.items():
             self.assertEqual(records.single(text), value)
         self.assertEqual(str(records.single("-0")), "-0.0")
@@ -67,7 +68,8 @@ class Example(unittest.TestCase):
 
 # A text, the line of its mistake, and what is said.
 MISTAKES = [
-    ("hose radius 2", 1, "unknown body 'hose': expected ribbon, tube, capsule, torus, closed cylinder"),
+    ("hose radius 2", 1, "unknown body 'hose': expected ribbon, tube, capsule, torus, closed cylinder, or a point"),
+    ("tube radius 1 divisions 3\nO 0 10", 2, "unknown body 'O'"),
     ("# none\n\ncylinder radius 2", 3, "unknown body 'cylinder'"),
     ("closed", 1, "unknown body 'closed'"),
     ("1 2 3", 1, "a point before the first body"),
@@ -79,18 +81,21 @@ MISTAKES = [
     ("ribbon width wide", 1, "width: 'wide' is not a number"),
     ("ribbon width nan", 1, "width: 'nan' is not a number"),
     ("ribbon width 1e39", 1, "width: '1e39' is too large"),
-    ("tube radius 1 divisions 4294967296", 1, "divisions: '4294967296' is not a whole number"),
+    ("tube radius 1 divisions 4294967296", 1, "divisions: '4294967296' is too large"),
+    ("Tube Radius 1 divisions 1O", 1, "divisions: '1O' is not a whole number such as 12"),
+    ("tube radius 1 divisions=12", 1, "'divisions=12': write divisions 12"),
+    ("tube, radius 1, divisions 3", 1, "separated by spaces, not by commas"),
     ("tube radius 1 divisions -3", 1, "divisions: '-3' is not a whole number"),
     ("tube radius 1 divisions 3.5", 1, "divisions: '3.5' is not a whole number"),
     ("tube radius 1 divisions 3\n 1 2", 2, "a point has three coordinates, x y z; here are 2"),
     ("tube radius 1 divisions 3\n 1 2 3 4", 2, "here are 4"),
     ("tube radius 1 divisions 3\n 1 2 z", 2, "'z' is not a number"),
-    ("tube radius 1 divisions 3\n 1,5 2,5 3", 2, "'1,5' is not a number"),
+    ("tube radius 1 divisions 3\n 1,5 2,5 3", 2, "separated by spaces, not by commas"),
     ("tube radius 1 divisions 3\n 0 0 0\n 1e40 0 0", 3, "'1e40' is too large"),
     ("closed cylinder divisions 3 layers 1 radius 1 length 1\n0 0 0", 2, "has no points"),
     ("closed cylinder divisions 3 layers 1 radius 1 length 1 centred 1", 1, "centred: '1' is neither yes nor no"),
-    ("ribbon width 1\n" + "0 0 1\n" * 513, 514, "more than 512 points"),
-    ("\x00\x01", 1, "a point before the first body"),
+    ("ribbon width 1\n" + "0 0 1\n" * 513, 514, "a body has at most 512 points"),
+    ("\x01", 1, "a point before the first body"),
 ]
 
 
@@ -108,6 +113,14 @@ class Mistakes(unittest.TestCase):
                     self.assertEqual((done.returncode, done.stdout), (1, b""), text)
                     self.assertTrue(told.startswith(start) and said in told, told)
                     self.assertEqual(told.count("\n"), 1, told)
+
+    def test_no_bodies(self):
+        """A text without a body is a mistake: `sweep` would make an empty set of it."""
+        for text, said in ((b"", "there is no body in this text"), (b"# none\r\n", "there is no body in this text"),
+                           ("tube radius 1".encode("utf-16"), "this is not a text in UTF-8")):
+            done = run("records.py", given=text)
+            self.assertEqual((done.returncode, done.stdout), (1, b""), text)
+            self.assertEqual(done.stderr.decode(), "standard input: %s\n" % said)
 
     def test_no_file(self):
         done = run("records.py", "no/such/file.txt")
@@ -217,6 +230,21 @@ class Warnings(unittest.TestCase):
         self.assertEqual((done.returncode, len(done.stdout)), (0, 2 * (28 + 24)))
         self.assertEqual(done.stderr.decode(), "standard input:5: warning: `sweep` will skip this body: "
                          "its divisions are outside 3 to 256 (20)\n")
+
+    def test_lines(self):
+        """What is wrong with a curve is told by the line of its point."""
+        ribbon, torus, a, b = "ribbon width 1", "torus divisions 3 radius 1", "0 0 0", "0 0 9"
+        for lines, said in (
+            ([ribbon, a], "it has 1 point, and needs at least 2 (10)"),
+            ([ribbon], "it has 0 points, and needs at least 2 (10)"),
+            ([ribbon, a, "# none", b, b], "its points of the lines 4 and 5 are the same (12)"),
+            ([torus, a, b, "9 0 9", a], "its last point, line 5, repeats its first, to which it is joined anyway (12)"),
+            ([torus, a, a, "9 0 9"], "its points of the lines 2 and 3 are the same (12)"),
+            ([ribbon, a, "", b, "0 0 1"], "its curve folds back on itself at its point of line 4 (13)"),
+            ([ribbon, a, b, "0 0 2e12"], "the segment from its point of line 3 is 2e+12 long: "
+             "about 9.54e-07 to 1.1e+12 is permitted (12)"),
+        ):
+            self.assertEqual(list(limits.warnings(records.parse(lines))), [(1, said)])
 
     def test_told_to_nobody(self):
         """With standard error closed, a warning does not get among the records."""
