@@ -3,6 +3,7 @@ use mathlib.Core.Path.{_≡_, refl, sym, ap, subst, _∙_}
 use mathlib.Core.Bool.{Bool, true, false, cond}
 use mathlib.Core.List.{List, [], _∷_, _++_}
 use Prim.Native.Nat.{ℕ, _+_, _*_, _≤_}
+use native.Mathlib.Nat.{add-zero}
 use native.Mathlib.Omega.{arith}
 use lib.Dec.{eqb}
 use lib.Ieee.{Float}
@@ -44,6 +45,12 @@ length-stain false at new held = refl
 -- the indices of the body that goes to the end have its first vertex added
 shifted : (L : Ledger) (b : Body) → trianglesBehind L b ≡ flatten (shift (vertexSum L) (b .triangles))
 shifted L b = ap (λ (first : ℕ). flatten (shift first (b .triangles))) (omega arith)
+
+-- +0 in the stretch of a 23, and of no other number
+zeroed : (L : Ledger) (a : Addition) (number : ℕ) (held : List Float)
+    → stainedBy L a (refused number) held
+    ≡ cond (eqb number 23) (overwrite (3 * vertexSum L) (zeros (length (aloneOf a .vertices))) held) held
+zeroed L a number held = search (add-zero, refl)
 
 module _ (s₀ : Buffers) where
   -- the ledger's set at the front of the buffers, of which the vertices held `held`
@@ -87,7 +94,9 @@ module _ (s₀ : Buffers) where
       (λ j. buffers (table-next L b j) (v j) (t j))
   settle L a held (refused number) each =
       let nothing = zeros (length (aloneOf a .vertices)) in
-      let v = stain (eqb number 23) (3 * vertexSum L) (setVertices L) nothing held (omega (arith, length-set-vertices L each)) in
+      let v =
+      stain (eqb number 23) (3 * vertexSum L) (setVertices L) nothing held (omega (arith, length-set-vertices L each))
+      ∙ ap (overwrite 0 (setVertices L)) (sym (zeroed L a number held)) in
       (λ j. buffers (overwrite 0 (setTable L) (s₀ .table)) (v j) (overwrite 0 (setTriangles L) (s₀ .triangles)))
 
   -- one addition
@@ -131,5 +140,8 @@ module _ (s₀ : Buffers) where
       record {
         fits = kept .fits;
         each = kept .each;
-        sized = length-stain (eqb number 23) (3 * vertexSum L) (zeros (length (aloneOf a .vertices))) held ∙ kept .sized;
+        sized =
+            ap (length {A = Float}) (zeroed L a number held)
+            ∙ length-stain (eqb number 23) (3 * vertexSum L) (zeros (length (aloneOf a .vertices))) held
+            ∙ kept .sized;
       }
