@@ -5,7 +5,7 @@ use mathlib.Core.List.{List, [], _∷_, _++_}
 use Prim.Native.Nat.{ℕ}
 use native.Mathlib.Omega.{arith}
 use borrow.Author.Tests.{not-true, not-false}
-use lib.Dec.{T}
+use lib.Dec.{T, eqb}
 use Rattle.answers.specs.Answers.{Answer, Test, AllPermitted, refused, accepted, isAccepted, firstOf}
 
 -- what `if !test` tells on its two ways
@@ -45,6 +45,11 @@ module _ {A : Type 0} where
   passed-by (t ∷ ts) us a h =
       passed-by ts us a (h .1) ∙ sym (ap (λ (p : Bool). cond p (firstOf (ts ++ us) a) (refused (t .number))) (h .0))
 
+  -- the same, where other tests come first
+  pub passed-within : (ts us vs : List Test) (a : A) → AllPermitted us → firstOf (ts ++ vs) a ≡ firstOf (ts ++ (us ++ vs)) a
+  passed-within [] us vs a h = passed-by us vs a h
+  passed-within (t ∷ ts) us vs a h = ap (λ (r : Answer A). cond (t .permitted) r (refused (t .number))) (passed-within ts us vs a h)
+
 -- a refusal is the same whatever would be accepted, and whichever tests follow
 refused-first : {A B : Type 0} (p : Bool) (j : ℕ) {k : ℕ} (r : Answer A) (s : Answer B) →
     (refused k ≡ r → refused k ≡ s) → refused k ≡ cond p r (refused j) → refused k ≡ cond p s (refused j)
@@ -54,3 +59,24 @@ refused-first false j r s next h = cc
 pub refused-by : {A B : Type 0} (ts us : List Test) {k : ℕ} (a : A) (b : B) → refused k ≡ firstOf ts a → refused k ≡ firstOf (ts ++ us) b
 refused-by [] us a b h = let z : _≡_ {A = ℕ} 0 1 = cc in absurd (omega arith)
 refused-by (t ∷ ts) us a b h = refused-first (t .permitted) (t .number) (firstOf ts a) (firstOf (ts ++ us) b) (refused-by ts us a b) h
+
+-- no test of a list has this number
+abbrev pub Others : ℕ → List Test → Type 0
+Others number [] = Unit
+Others number (t ∷ ts) = (eqb (t .number) number ≡ false) × Others number ts
+
+other-first : {A : Type 0} (p : Bool) (j number : ℕ) {k : ℕ} (rest : Answer A) → eqb j number ≡ false
+    → (refused k ≡ rest → eqb k number ≡ false) → refused k ≡ cond p rest (refused j) → eqb k number ≡ false
+other-first true j number rest other next h = next h
+other-first false j number {k} rest other next h = let same : k ≡ j = cc in ap (λ (i : ℕ). eqb i number) same ∙ other
+
+-- then no refusal of that list has it
+pub other-than : {A : Type 0} (number : ℕ) (ts : List Test) {k : ℕ} (a : A) → Others number ts → refused k ≡ firstOf ts a → eqb k number ≡ false
+other-than number [] a others h = let z : _≡_ {A = ℕ} 0 1 = cc in absurd (omega arith)
+other-than number (t ∷ ts) a others h =
+    other-first (t .permitted) (t .number) number (firstOf ts a) (others .0) (other-than number ts a (others .1)) h
+
+-- tests that are passed one after the other
+pub both-permitted : (ts us : List Test) → AllPermitted (ts ++ us) → AllPermitted ts × AllPermitted us
+both-permitted [] us h = (tt, h)
+both-permitted (t ∷ ts) us h = let rest = both-permitted ts us (h .1) in ((h .0, rest .0), rest .1)

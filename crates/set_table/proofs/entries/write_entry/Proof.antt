@@ -8,11 +8,10 @@ use borrow.Author.Needs.{needs}
 use denote.Ref.{now}
 use lib.ListN.{set, length-set}
 use Rattle.laws.specs.Overwrite.{overwrite, stores, one-store}
-use Rattle.set_table.specs.Room.{tableWords}
-use Rattle.set_table.specs.Table.{wordsOf}
+use Rattle.set_table.specs.Entries.{wordsOf, tableWords}
 use Rattle.set_table.specs.declared.entries.Entry.{Entry}
-use Rattle.shared_set.proofs.entry.write_entry.Statement.{statement}
-use Rattle.shared_set.proofs.entry.write_entry.Tie as tie
+use Rattle.set_table.proofs.entries.write_entry.Statement.{statement}
+use Rattle.set_table.proofs.entries.write_entry.Tie as tie
 
 six-stores : (p : ℕ) (e : Entry) (T : List ℕ) →
     let half = set (set (set T p (e .kind)) (p + 1) (e .divisions)) (p + 2) (e .vertex) in

@@ -5,29 +5,30 @@ use Prim.Native.Nat.{ℕ, _+_}
 use borrow.Author.Needs.{needs}
 use Rattle.kinds.specs.Kinds.{vertexCount, triangleCount}
 use Rattle.answers.proofs.FirstOf.{permits, refuses}
-use Rattle.set_table.specs.Room.{totalPermitted, entryPermitted}
-use Rattle.set_table.proofs.room.check_room.Statement.{statement}
-use Rattle.set_table.proofs.room.check_room.Tie as tie
+use Rattle.surface.specs.Limits.{fits}
+use Rattle.set_table.specs.Room.{entryPermitted}
+use Rattle.set_table.proofs.fit.check_fit.Statement.{statement}
+use Rattle.set_table.proofs.fit.check_fit.Tie as tie
 
 -- what the tests of the sums answer
 vertex-test : (c : tie.After-is-sum-permitted) → let a = c .before .before .before .before .args in
-    c .is-sum-permitted .result ≡ totalPermitted (a .totals .vertices + vertexCount (a .body)) (a .vertices)
+    c .is-sum-permitted .result ≡ fits (a .totals .vertices + vertexCount (a .body)) (a .vertices)
 vertex-test c =
     let a = c .before .before .before .before .args in
-    c .is-sum-permitted .ensures ∙ ap (λ (k : ℕ). totalPermitted (a .totals .vertices + k) (a .vertices)) (c .before .vertex-count .ensures)
+    c .is-sum-permitted .ensures ∙ ap (λ (k : ℕ). fits (a .totals .vertices + k) (a .vertices)) (c .before .vertex-count .ensures)
 
 triangle-test : (c : tie.After-is-sum-permitted2) → let a = c .before .before .before .before .before .before .before .args in
-    c .is-sum-permitted2 .result ≡ totalPermitted (a .totals .triangles + triangleCount (a .body)) (a .triangles)
+    c .is-sum-permitted2 .result ≡ fits (a .totals .triangles + triangleCount (a .body)) (a .triangles)
 triangle-test c =
     let a = c .before .before .before .before .before .before .before .args in
-    c .is-sum-permitted2 .ensures ∙ ap (λ (k : ℕ). totalPermitted (a .totals .triangles + k) (a .triangles)) (c .before .triangle-count .ensures)
+    c .is-sum-permitted2 .ensures ∙ ap (λ (k : ℕ). fits (a .totals .triangles + k) (a .triangles)) (c .before .triangle-count .ensures)
 
 -- the first two are passed
 has-entry : (c : tie.Else1) → let a = c .before .before .args in entryPermitted (a .totals .bodies) (a .table) ≡ true
 has-entry c = permits (c .before .is-entry-permitted .ensures) (c .if1 .left)
 
 has-vertices : (c : tie.Else2) → let a = c .before .before .before .before .before .args in
-    totalPermitted (a .totals .vertices + vertexCount (a .body)) (a .vertices) ≡ true
+    fits (a .totals .vertices + vertexCount (a .body)) (a .vertices) ≡ true
 has-vertices c = permits (vertex-test (c .before)) (c .if2 .left)
 
 is-entry-permitted-requires : tie.Need-is-entry-permitted-requires
@@ -61,8 +62,8 @@ returns-4 c =
     let second = c .before .before .before in
     rw (has-entry (second .before .before .before), has-vertices second, permits (triangle-test (c .before)) (c .if3 .left))
 
-pub check-room-spec : {M : Type 1} → statement M
-check-room-spec =
+pub check-fit-spec : {M : Type 1} → statement M
+check-fit-spec =
     tie.close
     (tie.spec
     is-entry-permitted-requires

@@ -2,8 +2,8 @@
 use borrow.Author.Tests.{eq-eqb, ne-eqb}
 use borrow.Author.Needs.{needs}
 use Rattle.set_table.specs.Room.{entryPermitted}
-use Rattle.set_table.proofs.room.is_entry_permitted.Statement.{statement}
-use Rattle.set_table.proofs.room.is_entry_permitted.Tie as tie
+use Rattle.set_table.proofs.fit.is_entry_permitted.Statement.{statement}
+use Rattle.set_table.proofs.fit.is_entry_permitted.Tie as tie
 
 add-result : tie.Need-add-result
 add-result c = search needs
