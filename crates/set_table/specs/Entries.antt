@@ -52,5 +52,5 @@ abbrev pub triangleTotal : List Entry → ℕ
 triangleTotal [] = 0
 triangleTotal (e ∷ es) = e .triangles + triangleTotal es
 
-abbrev pub totalsOf : List Entry → Totals
-totalsOf es = record { bodies = length es; vertices = vertexTotal es; triangles = triangleTotal es }
+abbrev pub entryTotals : List Entry → Totals
+entryTotals es = record { bodies = length es; vertices = vertexTotal es; triangles = triangleTotal es }

@@ -4,8 +4,8 @@ use borrow.Author.Needs.{needs}
 use Rattle.answers.specs.Answers.{accepted}
 use Rattle.set_table.specs.Buffers.{buffers}
 use Rattle.set_file.proofs.Files.{entry-word, vertex-word, triangle-word, no-word}
-use Rattle.set_file.proofs.file.word_behind.Statement.{statement}
-use Rattle.set_file.proofs.file.word_behind.Tie as tie
+use Rattle.set_file.proofs.file.body_word.Statement.{statement}
+use Rattle.set_file.proofs.file.body_word.Tie as tie
 
 cast-entries : tie.Need-cast-entries
 cast-entries c = search needs
@@ -74,8 +74,8 @@ returns-4 c =
     let left = c .before .before in
     no-word (a .totals) s (start .pre .1) (a .place) (left .before .before .if1 .left) (left .if2 .left) (c .if3 .left)
 
-pub word-behind-spec : {M : Type 1} → statement M
-word-behind-spec =
+pub body-word-spec : {M : Type 1} → statement M
+body-word-spec =
     tie.close
     (tie.spec
     cast-entries
