@@ -1,11 +1,12 @@
 ghost use mathlib.Core.Path.{_≡_};
 ghost use Rattle.surface.specs.Limits.{fits};
 
+// The most vertices, and the most triangles, that a set may have: `mostInAll` of
+// specs/Limits.antt.
+pub const MOST_IN_ALL: usize = 1 << 28;
 
-use crate::whole::MOST_IN_ALL;
-
-// Whether a set may have `total` vertices or triangles, which take three elements each, in a buffer
-// of `room` elements. The limit is tested first, so that the product does not wrap.
+// Whether a set may have `total` vertices, or triangles, in a buffer of `room` elements: each
+// takes three of them. The limit is tested first, so that the product does not wrap.
 pub fn fits(total: u64, room: usize) -> bool
     ensures { λ r. ⌜ r ≡ fits total room ⌝ }
 {

@@ -8,15 +8,15 @@ use borrow.Rule.Slice.PartMut.{putMid, midOf, mid-len, put-same}
 use denote.Ref.{now}
 use lib.Ieee.{Float}
 use lib.ListN.{length}
+use Rattle.laws.specs.Parts.{part}
 use Rattle.laws.specs.Overwrite.{overwrite}
 use Rattle.laws.specs.Lent.{lent-part}
 use Rattle.float32.specs.Scan.{allFinite}
 use Rattle.float32.specs.Zeros.{zeros}
 use Rattle.float32.proofs.ZeroCounts.{length-zeros}
 use Rattle.kinds.specs.Kinds.{vertexCount}
-use Rattle.shared_set.specs.Bodies.{stretchOf}
-use Rattle.shared_set.proofs.stretch.settle.Statement.{statement}
-use Rattle.shared_set.proofs.stretch.settle.Tie as tie
+use Rattle.shared_set.proofs.drawing.zero_unless_finite.Statement.{statement}
+use Rattle.shared_set.proofs.drawing.zero_unless_finite.Tie as tie
 
 abbrev start : tie.After-vertex-count → tie.Start
 start v = v .before .before
@@ -38,16 +38,16 @@ size v = end v - at (start v)
 within : (v : tie.After-vertex-count) → end v ≤ length (old (start v))
 within v = omega (arith, v .vertex-count .ensures)
 
-abbrev part : tie.After-vertex-count → List Float
-part v = midOf (at (start v)) (size v) (old (start v))
+abbrev scan : tie.After-vertex-count → List Float
+scan v = midOf (at (start v)) (size v) (old (start v))
 
-own : (v : tie.After-vertex-count) → let s = start v in part v ≡ stretchOf (s .args .first) (vertexCount (s .args .body)) (old s)
+own : (v : tie.After-vertex-count) → let s = start v in scan v ≡ part (at s) (3 * vertexCount (s .args .body)) (old s)
 own v = let s = start v in
     let sized : size v ≡ 3 * vertexCount (s .args .body) = omega (arith, v .vertex-count .ensures) in
     ap (λ (k : ℕ). midOf (at s) k (old s)) sized
 
 -- a list as long, written over it
-covered : (v : tie.After-vertex-count) (new : List Float) → length new ≡ length (part v)
+covered : (v : tie.After-vertex-count) (new : List Float) → length new ≡ length (scan v)
     → putMid (at (start v)) (size v) (old (start v)) new ≡ overwrite (at (start v)) new (old (start v))
 covered v new same = let s = start v in
     let sized = mid-len (at s) (end v) (old s) (within v) in
@@ -57,7 +57,7 @@ abbrev counted : tie.After-are-finite → tie.After-vertex-count
 counted a = a .before .before .before
 
 scanned : (a : tie.After-are-finite) → let s = start (counted a) in
-    a .are-finite .result ≡ allFinite (stretchOf (s .args .first) (vertexCount (s .args .body)) (old s))
+    a .are-finite .result ≡ allFinite (part (at s) (3 * vertexCount (s .args .body)) (old s))
 scanned a = a .are-finite .ensures ∙ ap allFinite (own (counted a))
 
 mul-at : tie.Need-mul-at
@@ -94,7 +94,7 @@ returns : tie.Need-returns
 returns c = let a = c .before in
     let v = counted a in
     let s = start v in
-    let kept = sym (put-same (at s) (size v) (old s)) ∙ covered v (part v) refl in
+    let kept = sym (put-same (at s) (size v) (old s)) ∙ covered v (scan v) refl in
     (sym (c .if1 .taken) ∙ scanned a, kept ∙ ap (λ (l : List Float). overwrite (at s) l (old s)) (own v))
 
 mul-fill-zeros : tie.Need-mul-fill-zeros
@@ -120,12 +120,12 @@ returns-2 c = let z = c .before .before in
     let e = z .before .before in
     let v = counted (e .before) in
     let s = start v in
-    let none = zeros (length (part v)) in
-    let zeroed = ap (λ (l : List Float). putMid (at s) (size v) (old s) l) (z .fill-zeros .ensures) ∙ covered v none (length-zeros (length (part v))) in
+    let none = zeros (length (scan v)) in
+    let zeroed = ap (λ (l : List Float). putMid (at s) (size v) (old s) l) (z .fill-zeros .ensures) ∙ covered v none (length-zeros (length (scan v))) in
     (sym (e .if1 .left) ∙ scanned (e .before), zeroed ∙ ap (λ (l : List Float). overwrite (at s) (zeros (length l)) (old s)) (own v))
 
-pub settle-spec : {M : Type 1} → statement M
-settle-spec =
+pub zero-unless-finite-spec : {M : Type 1} → statement M
+zero-unless-finite-spec =
     tie.close
     (tie.spec
     mul-at
