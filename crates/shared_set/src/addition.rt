@@ -43,11 +43,13 @@ fn append_fitting(
         ≡ afterAnswer totals (bodyAlone description c) (buffers (now (table .entry)) (now (vertices .entry)) (now (triangles .entry)))
         (firstOf (foldTests description c ++ finiteTests description c) tt) ⌝ }
 {
-    let outcome = draw(totals, body, description, curve, vertices);
-    if let Outcome::Accepted = outcome {
-        place(totals, body, description, table, triangles);
+    match draw(totals, body, description, curve, vertices) {
+        Outcome::Refused(why) => Outcome::Refused(why),
+        Outcome::Accepted => {
+            place(totals, body, description, table, triangles);
+            Outcome::Accepted
+        }
     }
-    outcome
 }
 
 // Why a body that has no room is refused: a fold (13) comes before a lack of room, `why`.
