@@ -8,8 +8,8 @@ ghost use Rattle.descriptions.specs.Answers.{verdictAnswer};
 ghost use Rattle.descriptions.specs.Refusals.{checkedOf};
 ghost use Rattle.bodies.specs.Bodies.{verticesOf, drawable};
 use crate::draw::draw;
-use descriptions::Description;
 use answers::Refusal;
+use descriptions::Description;
 use descriptions::Verdict;
 
 // Whether vertices of `size` floats are wanted and fit into `room` floats.

@@ -5,9 +5,9 @@ ghost use lib.ListN.{length};
 ghost use Rattle.curve.specs.Checks.{foldsPermitted};
 ghost use Rattle.descriptions.specs.Answers.{verdictAnswer};
 ghost use Rattle.descriptions.specs.Refusals.{verticesPermitted, curveFoldsPermitted, floatsOf, segmentsCheckedOf, checkedOf};
-use answers::Refusal;
-use crate::verdict::Verdict;
 use crate::description::Description;
+use crate::verdict::Verdict;
+use answers::Refusal;
 use kinds::Topology;
 use surface::Chain;
 

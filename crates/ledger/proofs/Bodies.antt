@@ -71,6 +71,7 @@ shaped t b first h kind divisions triangles sized finite =
 
 -- a body alone, of a description and a curve that nothing refuses before 2
 pub added : (d : Description) (c : List Float) (first : ℕ) → AllPermitted (checkedTests d c) → floatsFinite d c ≡ true → Added first (bodyAlone d c)
+unfolding shaped
 added d c first h finite =
     let N = verticesIn c in
     let shape = checked-shape d c h .1 in

@@ -13,7 +13,7 @@ use Rattle.laws.specs.Overwrite.{overwrite, length-overwrite, getD-within, over
 use Rattle.laws.specs.Overlaps.{overwrite-swap}
 use Rattle.laws.specs.Lent.{part-written}
 use Rattle.laws.specs.Every.{every}
-use Rattle.set_table.specs.Entries.{entryWords, wordsOf, entryFrom, tableWords, entryIn, allWords}
+use Rattle.set_table.specs.Entries.{entryWords, wordsOf, entryFrom, tableWords, entryIn, entriesIn, allWords}
 use Rattle.set_table.specs.Room.{lengths}
 use Rattle.set_table.specs.Table.{bodiesIn, verticesBefore, trianglesBefore, entrySound, soundAt, undamaged, totalsIn}
 use Rattle.set_table.specs.declared.totals.Totals.{Totals}
@@ -65,6 +65,11 @@ triangles-read : (L : Ledger) (T : List ℕ) → Begins L T → trianglesBefore 
 triangles-read empty T h = refl
 triangles-read (then L b) T h = ap (trianglesBefore (entryIn T)) (add-one (bodyCount L)) ∙ (λ j. triangles-read L T (h .0) j + h .1 j .triangles)
 
+same-entries : (L : Ledger) (T : List ℕ) → Begins L T → entriesIn T (bodyCount L) ≡ entriesOf L
+same-entries empty T h = refl
+same-entries (then L b) T h =
+    ap (entriesIn T) (add-one (bodyCount L)) ∙ (λ j. same-entries L T (h .0) j ++ (h .1 j ∷ []))
+
 entry-sound : (L : Ledger) (b : Body) → EachShaped (then L b) → entrySound (entryOf (totalsOf L) b) (vertexSum L) (triangleSum L) ≡ true
 unfolding entrySound
 entry-sound L b s =
@@ -88,6 +93,10 @@ module _ (L : Ledger) (T₀ : List ℕ) (vertices triangles : ℕ) (held : Limit
 
   count-read : bodiesIn T ≡ bodyCount L
   count-read = getD-within 0 (setTable L) T₀ 0 0 (omega arith) (omega (arith, held .entries))
+
+  -- its entries are the ledger's
+  pub entries-read : entriesIn T (bodyCount L) ≡ entriesOf L
+  entries-read = same-entries L T there
 
   pub totals-read : totalsIn T ≡ totalsOf L
   totals-read =

@@ -14,10 +14,10 @@ use crate::head::HEAD_WORDS;
 use crate::head::describe;
 use crate::head::record_words;
 use crate::reply::Reply;
+use answers::Outcome;
 use descriptions::Described;
 use descriptions::Description;
 use float32::from_word;
-use answers::Outcome;
 
 // Room for the coordinates of the most vertices that a record may have.
 const ROOM: usize = 1536;

@@ -8,10 +8,10 @@ ghost use Rattle.set_table.specs.Buffers.{buffers};
 ghost use Rattle.set_file.specs.Answers.{wordAnswer};
 ghost use Rattle.set_file.specs.File.{fileHead, fileBody, entriesHeld, floatsHeld, indicesHeld, wordIn, fileWordOf};
 use crate::word::FileWord;
+use answers::Refusal;
 use set_table::ENTRY_WORDS;
 use set_table::Reading;
 use set_table::Totals;
-use answers::Refusal;
 use set_table::read;
 
 // The edition of the file.

@@ -1,6 +1,6 @@
 // The file of a shared set, word by word.
-mod word;
 mod file;
+mod word;
 
-pub use word::FileWord;
 pub use file::file_word;
+pub use word::FileWord;

@@ -110,13 +110,6 @@ pub fn add(
 {
     match read(table, vertices.len(), triangles.len()) {
         Reading::Damaged => Outcome::Refused(Refusal::DamagedTable),
-        Reading::Sound(totals) => append(
-            totals,
-            description,
-            curve,
-            table,
-            vertices,
-            triangles,
-        ),
+        Reading::Sound(totals) => append(totals, description, curve, table, vertices, triangles),
     }
 }

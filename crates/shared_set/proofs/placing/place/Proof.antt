@@ -78,9 +78,9 @@ returns c =
     let a = s .args in
     let list = flatten (shift (a .totals .vertices) (trianglesOf (a .body))) in (
       e .write-entry .ensures
-      ∙ (λ j. withEntry (a .totals .bodies)
-      (entryWith (a .totals) (d .before .kind-number .ensures j) (d .divisions .ensures j) (v .vertex-count .ensures j) (f .triangle-count .ensures j))
-      (now (a .table))),
+          ∙ (λ j. withEntry (a .totals .bodies)
+          (entryWith (a .totals) (d .before .kind-number .ensures j) (d .divisions .ensures j) (v .vertex-count .ensures j) (f .triangle-count .ensures j))
+          (now (a .table))),
       lent-from (3 * a .totals .triangles) list (now (a .triangles)) (t .put-triangles .ensures),
     )
 
