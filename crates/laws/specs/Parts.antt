@@ -1,4 +1,5 @@
--- A part of a list: `count` elements from place `at` on. It is what `&s[at..at + count]` lends. Definitions only.
+-- A part of a list: `count` elements from place `at` on. It is what `&s[at..at + count]` lends.
+-- Definitions only.
 use mathlib.Core.List.{List}
 use Prim.Native.Nat.{ℕ}
 use lib.ListN.{take, drop}

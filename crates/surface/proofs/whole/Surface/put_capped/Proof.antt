@@ -1,4 +1,4 @@
--- Bottom cap, grid and top cap, each written behind the last. Assumes nothing.
+-- Bottom cap, grid and top cap, each written after the last. Assumes nothing.
 use mathlib.Core.Path.{_≡_, sym, ap, _∙_}
 use mathlib.Core.List.{_++_}
 use Prim.Native.Nat.{_+_, _*_, _^_, _≤_}
@@ -13,10 +13,10 @@ use Rattle.surface.specs.declared.caps.End.the-variants.{Bottom}
 use Rattle.surface.proofs.Flatten.{three-written}
 use Rattle.surface.proofs.Pieces.{length-cap, length-grid, bottomOf, topOf, capped-parts}
 use Rattle.surface.proofs.Room.{capped-fits}
-use Rattle.surface.proofs.whole.Surface.write_capped.Statement.{statement}
-use Rattle.surface.proofs.whole.Surface.write_capped.Tie as tie
+use Rattle.surface.proofs.whole.Surface.put_capped.Statement.{statement}
+use Rattle.surface.proofs.whole.Surface.put_capped.Tie as tie
 
--- how far the top pole and the last ring lie behind the first ring
+-- how far the top pole and the last ring lie past the first ring
 to-pole : (c : tie.After-ring-count) → c .ring-count .result * c .before .ring-size .result ≡ gridSize (c .before .before .before .before .before .args .self)
 to-pole c = λ i. c .ring-count .ensures i * c .before .ring-size .ensures i
 
@@ -32,7 +32,7 @@ room : (c : tie.After-ring-count) → let a = c .before .before .before .before 
     × (s .columns * 3 + s .rows * s .columns * 6 + s .columns * 3 ≤ length (now (a .out)))
 room c = let a = c .before .before .before .before .before .args in
     let p = c .before .before .before .before .before .pre in
-    omega (arith, to-pole c, to-rim (c .before), capped-fits (a .self) (a .first) (length (now (a .out))) (p .1) (p .0))
+    omega (arith, to-pole c, to-rim (c .before), capped-fits (a .self) (a .first) (length (now (a .out))) (p .1 .0) (p .1 .1) (p .0))
 
 cast-rows : tie.Need-cast-rows
 cast-rows c = search needs
@@ -46,7 +46,7 @@ ring-size-requires c κs = search needs
 add-side : tie.Need-add-side
 add-side c = let a = c .before .before .before .before .args in
     let p = c .before .before .before .before .pre in
-    omega (arith, capped-fits (a .self) (a .first) (length (now (a .out))) (p .1) (p .0))
+    omega (arith, capped-fits (a .self) (a .first) (length (now (a .out))) (p .1 .0) (p .1 .1) (p .0))
 
 ring-count-requires : tie.Need-ring-count-requires
 ring-count-requires c κs = search needs
@@ -115,12 +115,12 @@ returns c = let m = c .before .before .before .before .before .before .before .b
     (c .before .before .before .before .before .before .write-grid .ensures)
     (c .before .before .write-cap2 .ensures)
     (sym (length-cap Bottom (s .columns) (a .first) (a .first + 1)))
-    (omega (arith, length-grid (s .split) (s .round) (s .columns) (chainOf (s .along)) (s .rows) (a .first + 1)))
+    (omega (arith, length-grid (s .split) (s .round) (s .columns) (chainOf (s .ending)) (s .rows) (a .first + 1)))
     ∙ (λ i. overwrite 0 (flatten (bottom ++ (grid ++ topOf s (a .first) (pole i) (rim i)))) t₀)
     ∙ ap (λ l. overwrite 0 (flatten l) t₀) (sym (capped-parts s (a .first) (m .before .before .before .before .before .pre .0)))
 
-pub write-capped-spec : {M : Type 1} → statement M
-write-capped-spec =
+pub put-capped-spec : {M : Type 1} → statement M
+put-capped-spec =
     tie.close
     (tie.spec
     cast-rows
