@@ -34,7 +34,7 @@ pub(crate) fn place(
         return Outcome::NotFinite;
     }
     let at = 3 * totals.triangles;
-    body.write_triangles(first as u32, &mut triangles[at..]);
+    body.put_triangles(first as u32, &mut triangles[at..]);
     let entry = Entry {
         kind: description.kind_number(),
         divisions: description.divisions(),

@@ -1,21 +1,21 @@
 -- The vertices that are drawn are finite and the body's triangles and entry follow, or its stretch is zeros. Assumes nothing.
 use mathlib.Core.Path.{_≡_, sym, ap, _∙_}
-use mathlib.Core.Bool.{Bool, true, cond, _&&_}
+use mathlib.Core.Bool.{Bool, cond}
 use mathlib.Core.List.{List}
-use Prim.Native.Nat.{ℕ, _+_, _-_, _*_, _/_, _^_, _≤_}
+use Prim.Native.Nat.{ℕ, _+_, _-_, _*_, _/_, _≤_}
 use native.Mathlib.Omega.{arith}
 use borrow.Author.Needs.{needs}
-use borrow.Author.Tests.{le-leb, not-true, not-false}
+use borrow.Author.Tests.{not-true, not-false}
 use borrow.Rule.Slice.PartMut.{putMid, midOf}
 use denote.Ref.{now}
 use lib.Ieee.{Float}
 use lib.ListN.{length}
-use Rattle.laws.specs.Overwrite.{overwrite, placed}
+use Rattle.laws.specs.Overwrite.{overwrite}
 use Rattle.laws.specs.Lent.{lent-from, length-rest}
 use Rattle.float32.specs.Scan.{allFinite}
 use Rattle.float32.specs.Zeros.{zeros}
 use Rattle.surface.specs.Triangles.{flatten, shift}
-use Rattle.kinds.specs.Kinds.{vertexCount, triangleCount, trianglesOf, writable}
+use Rattle.kinds.specs.Kinds.{vertexCount, triangleCount, trianglesOf}
 use Rattle.kinds.proofs.Claims.{permitted-claims}
 use Rattle.descriptions.specs.Answers.{accepted, refused}
 use Rattle.set_table.specs.Buffers.{Buffers, buffers, lengthsOf}
@@ -60,8 +60,8 @@ settled w h = ap (settle (start w)) (sym h ∙ w .settle .ensures .0)
 abbrev before-triangles : tie.After-struct-known → tie.Start
 before-triangles c = start (c .before .before .before .before)
 
--- the triangles have room in the rest of their buffer, and are written
-abbrev begun : tie.After-write-triangles → tie.Start
+-- the triangles are written to the rest of their buffer
+abbrev begun : tie.After-put-triangles → tie.Start
 begun t = before-triangles (t .before .before)
 
 abbrev at : tie.Start → ℕ
@@ -76,30 +76,15 @@ list s = flatten (shift (s .args .totals .vertices) (trianglesOf (s .args .body)
 abbrev lent : tie.Start → List ℕ
 lent s = midOf (at s) (length (old s) - at s) (old s)
 
-whole : (t : tie.After-write-triangles) → t .write-triangles .result ≡ true
-unfolding writable
-whole t =
-    let s = begun t in
-    let a = s .args in
-    let f = fit s in
-    let numbered = a .totals .vertices + vertexCount (a .body) in
-    let room = length (lent s) in
-    let enough : 3 * triangleCount (a .body) ≤ room = omega (arith, length-rest (at s) (old s)) in
-    t .write-triangles .ensures .0
-    ∙ (λ j. s .pre .0 j && (le-leb numbered (2 ^ 28) (f .vertices .0) j && le-leb (3 * triangleCount (a .body)) room enough j))
-
-written : (t : tie.After-write-triangles) → let s = begun t in
-    putMid (at s) (length (old s) - at s) (old s) (t .write-triangles .last .1 .1 .0) ≡ overwrite (at s) (list s) (old s)
-written t =
-    let s = begun t in
-    lent-from (at s) (list s) (old s)
-    (t .write-triangles .ensures .1 ∙ (λ j. placed (whole t j) (list s) (lent s)))
+written : (t : tie.After-put-triangles) → let s = begun t in
+    putMid (at s) (length (old s) - at s) (old s) (t .put-triangles .last .1 .1 .0) ≡ overwrite (at s) (list s) (old s)
+written t = let s = begun t in lent-from (at s) (list s) (old s) (t .put-triangles .ensures)
 
 -- the entry that is written is the body's
 abbrev counting : tie.After-triangle-count → tie.After-divisions
 counting c = c .before .before .before
 
-abbrev entering : tie.After-divisions → tie.After-write-triangles
+abbrev entering : tie.After-divisions → tie.After-put-triangles
 entering d = d .before .before .before .before
 
 entry : (c : tie.After-triangle-count) → let s = begun (entering (counting c)) in
@@ -141,23 +126,26 @@ returns c = let w = c .before .before .before in
 mul-at : tie.Need-mul-at
 mul-at c = omega (arith, fit (before-triangles c))
 
-cast-write-triangles : tie.Need-cast-write-triangles
-cast-write-triangles c = omega (arith, fit (before-triangles c))
+cast-put-triangles : tie.Need-cast-put-triangles
+cast-put-triangles c = omega (arith, fit (before-triangles c))
 
-mul-write-triangles : tie.Need-mul-write-triangles
-mul-write-triangles c = omega (arith, fit (before-triangles c))
+mul-put-triangles : tie.Need-mul-put-triangles
+mul-put-triangles c = omega (arith, fit (before-triangles c))
 
-sub-write-triangles : tie.Need-sub-write-triangles
-sub-write-triangles c = omega (arith, fit (before-triangles c))
+sub-put-triangles : tie.Need-sub-put-triangles
+sub-put-triangles c = omega (arith, fit (before-triangles c))
 
-part-write-triangles-start : tie.Need-part-write-triangles-start
-part-write-triangles-start c = omega (arith, fit (before-triangles c))
+part-put-triangles-start : tie.Need-part-put-triangles-start
+part-put-triangles-start c = omega (arith, fit (before-triangles c))
 
-part-write-triangles-end : tie.Need-part-write-triangles-end
-part-write-triangles-end c = search needs
+part-put-triangles-end : tie.Need-part-put-triangles-end
+part-put-triangles-end c = search needs
 
-write-triangles-requires : tie.Need-write-triangles-requires
-write-triangles-requires c κs = search needs
+put-triangles-requires : tie.Need-put-triangles-requires
+put-triangles-requires c κs =
+    let s = before-triangles (c .before) in
+    let f = fit s in
+    (s .pre .0, (f .vertices .0, omega (arith, length-rest (at s) (old s))))
 
 kind-number-requires : tie.Need-kind-number-requires
 kind-number-requires c κs = search needs
@@ -165,23 +153,23 @@ kind-number-requires c κs = search needs
 divisions-requires : tie.Need-divisions-requires
 divisions-requires c κs = search needs
 
-cast-t21 : tie.Need-cast-t21
-cast-t21 c = omega (arith, fit (begun (entering c)))
+cast-t22 : tie.Need-cast-t22
+cast-t22 c = omega (arith, fit (begun (entering c)))
 
 vertex-count-requires : tie.Need-vertex-count-requires
 vertex-count-requires c κs = search needs
 
-cast-t23 : tie.Need-cast-t23
-cast-t23 c = omega (arith, fit (begun (entering (c .before))), c .vertex-count .ensures)
-
 cast-t24 : tie.Need-cast-t24
-cast-t24 c = omega (arith, fit (begun (entering (c .before .before))))
+cast-t24 c = omega (arith, fit (begun (entering (c .before))), c .vertex-count .ensures)
+
+cast-t25 : tie.Need-cast-t25
+cast-t25 c = omega (arith, fit (begun (entering (c .before .before))))
 
 triangle-count-requires : tie.Need-triangle-count-requires
 triangle-count-requires c κs = search needs
 
-cast-t26 : tie.Need-cast-t26
-cast-t26 c = omega (arith, fit (begun (entering (counting c))), c .triangle-count .ensures)
+cast-t27 : tie.Need-cast-t27
+cast-t27 c = omega (arith, fit (begun (entering (counting c))), c .triangle-count .ensures)
 
 write-entry-requires : tie.Need-write-entry-requires
 write-entry-requires c κs = fit (begun (entering (counting (c .before)))) .entry
@@ -212,20 +200,20 @@ place-spec =
     same-length
     returns
     mul-at
-    cast-write-triangles
-    mul-write-triangles
-    sub-write-triangles
-    part-write-triangles-start
-    part-write-triangles-end
-    write-triangles-requires
+    cast-put-triangles
+    mul-put-triangles
+    sub-put-triangles
+    part-put-triangles-start
+    part-put-triangles-end
+    put-triangles-requires
     kind-number-requires
     divisions-requires
-    cast-t21
+    cast-t22
     vertex-count-requires
-    cast-t23
     cast-t24
+    cast-t25
     triangle-count-requires
-    cast-t26
+    cast-t27
     write-entry-requires
     same-length-2
     same-length-3
