@@ -1,23 +1,26 @@
--- Each place lies within the buffer. Assumes nothing.
+-- Each place lies within both slices. Assumes nothing.
 use mathlib.Core.Path.{_≡_}
 use Prim.Native.Nat.{_-_, _≤_}
 use native.Mathlib.Omega.{arith}
 use borrow.Author.Needs.{needs}
 use lib.ListN.{length, length-set}
-use Rattle.neighbours.proofs.markers.mark_floats.Statement.{statement}
-use Rattle.neighbours.proofs.markers.mark_floats.Tie as tie
+use Rattle.hex_lines.proofs.words.from_words.Statement.{statement}
+use Rattle.hex_lines.proofs.words.from_words.Tie as tie
 
 abbrev Inv-loop : tie.InvT-loop
-Inv-loop start floats₀ i₀ floats i = (i ≤ length floats) × (length floats ≡ length floats₀)
+Inv-loop words floats₀ i₀ floats i = (i ≤ length words) × (length floats ≡ length floats₀)
 
 abbrev μ-loop : tie.MeasureT-loop
-μ-loop start floats₀ i₀ floats i = length floats - i
+μ-loop words floats₀ i₀ floats i = length words - i
 
 loop-holds : tie.Need-loop-holds Inv-loop μ-loop
 loop-holds c = search needs
 
-marker-requires : tie.Need-marker-requires Inv-loop μ-loop
-marker-requires c κs = search needs
+mul-from-word : tie.Need-mul-from-word Inv-loop μ-loop
+mul-from-word c = search needs
+
+shared-slice-read-from-word : tie.Need-shared-slice-read-from-word Inv-loop μ-loop
+shared-slice-read-from-word c = search needs
 
 from-word-requires : tie.Need-from-word-requires Inv-loop μ-loop
 from-word-requires c κs = search needs
@@ -32,7 +35,7 @@ add-i : tie.Need-add-i Inv-loop μ-loop
 add-i c = search needs
 
 loop-less : tie.Need-loop-less Inv-loop μ-loop
-loop-less c = simp length-set (omega arith)
+loop-less c = search needs
 
 loop-again : tie.Need-loop-again Inv-loop μ-loop
 loop-again c = simp length-set (omega arith)
@@ -43,14 +46,15 @@ same-length c = search needs
 returns : tie.Need-returns Inv-loop μ-loop
 returns c = search needs
 
-pub mark-floats-spec : {M : Type 1} → statement M
-mark-floats-spec =
+pub from-words-spec : {M : Type 1} → statement M
+from-words-spec =
     tie.close
     (tie.spec
     Inv-loop
     μ-loop
     loop-holds
-    marker-requires
+    mul-from-word
+    shared-slice-read-from-word
     from-word-requires
     mul-floats
     slice-write-floats

@@ -1,18 +1,18 @@
--- Each triangle lies within the slice. Assumes nothing.
+-- Each line lies within the slice. Assumes nothing.
 use Prim.Native.Nat.{_-_, _≤_}
 use borrow.Author.Needs.{needs}
 use lib.ListN.{length}
-use Rattle.worked_lists.proofs.print_triangles.Statement.{statement}
-use Rattle.worked_lists.proofs.print_triangles.Tie as tie
+use Rattle.hex_lines.proofs.print_triples.Statement.{statement}
+use Rattle.hex_lines.proofs.print_triples.Tie as tie
 
 abbrev Inv-loop : tie.InvT-loop
-Inv-loop indices i₀ i = i ≤ length indices
+Inv-loop words i₀ i = i ≤ length words
 
 abbrev μ-loop : tie.MeasureT-loop
-μ-loop indices i₀ i = length indices - i
+μ-loop words i₀ i = length words - i
 
-pub print-triangles-spec : {M : Type 1} → statement M
-print-triangles-spec =
+pub print-triples-spec : {M : Type 1} → statement M
+print-triples-spec =
     tie.close
     (tie.spec
     Inv-loop
