@@ -9,7 +9,7 @@ use lib.Ieee.{Float}
 use lib.ListN.{length}
 use Rattle.kinds.specs.Kinds.{vertexCount}
 use Rattle.curve.specs.Segments.{verticesIn}
-use Rattle.descriptions.specs.Answers.{isAccepted}
+use Rattle.answers.specs.Answers.{isAccepted}
 use Rattle.descriptions.specs.Descriptions.{curveChain, segmentCount, topologyOf}
 use Rattle.descriptions.specs.Refusals.{shapeOf}
 use Rattle.descriptions.specs.declared.description.Description.{Description}

@@ -8,11 +8,11 @@ use lib.Ieee.{Float}
 use lib.ListN.{length}
 use Rattle.surface.specs.declared.grid.Chain.{Chain}
 use Rattle.kinds.specs.declared.topology.Topology.{Topology}
-use Rattle.descriptions.specs.Answers.{refused, accepted}
+use Rattle.answers.specs.Answers.{refused, accepted}
 use Rattle.descriptions.specs.Descriptions.{topologyOf}
 use Rattle.descriptions.specs.Refusals.{curveFoldsPermitted, segmentTests, segmentsCheckedOf, foldTests, checkedOf}
 use Rattle.descriptions.specs.declared.description.Description.{Description}
-use Rattle.descriptions.proofs.FirstOf.{accepted-by, passed-by}
+use Rattle.answers.proofs.FirstOf.{accepted-by, passed-by}
 
 -- a test over the chain and the number of segments that were answered, as the test over what they are
 pub along : (f : Chain → ℕ → List Float → Bool) (l : List Float) {k k' : Chain} {m m' : ℕ} → k ≡ k' → m ≡ m' → f k m l ≡ f k' m' l

@@ -17,7 +17,7 @@ use Rattle.kinds.specs.Kinds.{permitted, vertexCount, triangleCount, layersOf}
 use Rattle.kinds.specs.declared.topology.Topology.{Topology}
 use Rattle.kinds.specs.declared.topology.Topology.the-variants as topology
 use Rattle.kinds.proofs.Bounds.{Bounds, bounds, between-true}
-use Rattle.descriptions.specs.Answers.{AllPermitted, accepted}
+use Rattle.answers.specs.Answers.{AllPermitted, accepted}
 use Rattle.descriptions.specs.Descriptions.{curveChain, segmentsOf, segmentCount, topologyOf}
 use Rattle.descriptions.specs.Refusals.{
   verticesPermitted,
@@ -32,7 +32,7 @@ use Rattle.descriptions.specs.Refusals.{
 }
 use Rattle.descriptions.specs.declared.description.Description.{Description}
 use Rattle.descriptions.specs.declared.description.Description.the-variants.{Ribbon, Tube, Capsule, Torus, ClosedCylinder}
-use Rattle.descriptions.proofs.FirstOf.{accepted-by}
+use Rattle.answers.proofs.FirstOf.{accepted-by}
 
 pub vertices-most : (d : Description) (N : ℕ) → verticesPermitted d N ≡ true → N ≤ 4096
 vertices-most (Ribbon w) N h = between-true 2 4096 N h .1

@@ -12,7 +12,8 @@ use Rattle.kinds.specs.Limits.{between, divisionsPermitted, longitudesPermitted
 use Rattle.kinds.specs.Kinds.{vertexCount, triangleCount}
 use Rattle.kinds.specs.declared.topology.Topology.{Topology}
 use Rattle.curve.specs.Checks.{segmentsPermitted, foldsPermitted}
-use Rattle.descriptions.specs.Answers.{Answer, Test, Counts, AllPermitted, firstOf}
+use Rattle.answers.specs.Answers.{Answer, Test, test, AllPermitted, firstOf}
+use Rattle.descriptions.specs.Answers.{Counts}
 use Rattle.descriptions.specs.Descriptions.{curveChain, segmentCount, topologyOf}
 use Rattle.descriptions.specs.declared.description.Description.{Description}
 use Rattle.descriptions.specs.declared.description.Description.the-variants.{Ribbon, Tube, Capsule, Torus, ClosedCylinder}
@@ -62,9 +63,6 @@ sizesPermitted (Tube n r) = sizePermitted r
 sizesPermitted (Capsule n L r) = sizePermitted r
 sizesPermitted (Torus n r) = sizePermitted r
 sizesPermitted (ClosedCylinder n S centred r l) = sizePermitted r && sizePermitted l
-
-abbrev pub test : ℕ → Bool → Test
-test number permitted = record { number = number; permitted = permitted }
 
 -- 10, 20, 21 of a number of curve vertices
 abbrev pub shapeTests : Description → ℕ → List Test

@@ -1,9 +1,9 @@
 ghost use mathlib.Core.Path.{_≡_};
 ghost use Rattle.descriptions.specs.Answers.{verdictAnswer, countedAnswer};
 ghost use Rattle.descriptions.specs.Refusals.{shapeOf, countsOf};
-use crate::answers::Counted;
-use crate::answers::Refusal;
-use crate::answers::Verdict;
+use crate::verdict::Counted;
+use answers::Refusal;
+use crate::verdict::Verdict;
 use crate::description::Description;
 
 impl Description {

@@ -12,7 +12,7 @@ use Rattle.kinds.specs.Kinds.{trianglesOf}
 use Rattle.kinds.specs.Limits.{between}
 use Rattle.kinds.proofs.Claims.{permitted-claims, capsule-triangles}
 use Rattle.curve.specs.Segments.{verticesIn}
-use Rattle.descriptions.specs.Answers.{Test, AllPermitted}
+use Rattle.answers.specs.Answers.{Test, AllPermitted}
 use Rattle.descriptions.specs.Descriptions.{topologyOf}
 use Rattle.descriptions.specs.Refusals.{ShapePermitted, checkedTests}
 use Rattle.descriptions.specs.KindNumbers.{lastKind}

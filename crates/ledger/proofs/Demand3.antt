@@ -8,9 +8,8 @@ use lib.Ieee.{Float}
 use lib.ListN.{length}
 use Rattle.laws.specs.Overwrite.{overwrite, overwrite-none}
 use Rattle.laws.specs.Overlaps.{overwrite-front}
-use Rattle.descriptions.specs.Answers.{accepted}
-use Rattle.descriptions.specs.Refusals.{test}
-use Rattle.descriptions.proofs.FirstOf.{accepted-by}
+use Rattle.answers.specs.Answers.{accepted, test}
+use Rattle.answers.proofs.FirstOf.{accepted-by}
 use Rattle.set_table.specs.Buffers.{Buffers, buffers, lengthsOf}
 use Rattle.shared_set.specs.Set.{After, clearAnswer}
 use Rattle.ledger.specs.Ledger.{Ledger, empty, Addition, replyTo, repliesTo, entered, final, setTable, setVertices, setTriangles, stainedBy, stained}

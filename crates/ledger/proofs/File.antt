@@ -8,7 +8,7 @@ use lib.Ieee.{Float}
 use lib.ListN.{length, drop, take, length-drop}
 use Rattle.laws.specs.Overwrite.{overwrite}
 use Rattle.laws.specs.Lent.{part-written}
-use Rattle.descriptions.specs.Answers.{refused}
+use Rattle.answers.specs.Answers.{refused}
 use Rattle.set_table.specs.Room.{entryWords}
 use Rattle.set_table.specs.Table.{totalsIn}
 use Rattle.set_table.specs.Buffers.{Buffers}

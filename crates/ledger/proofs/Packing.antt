@@ -12,9 +12,9 @@ use Rattle.laws.specs.Overwrite.{overwrite, length-overwrite, overwrite-append}
 use Rattle.laws.specs.Overlaps.{overwrite-head, overwrite-swap}
 use Rattle.float32.specs.Zeros.{zeros}
 use Rattle.surface.specs.Triangles.{flatten, shift}
-use Rattle.descriptions.specs.Answers.{Answer, refused, accepted, firstOf}
+use Rattle.answers.specs.Answers.{Answer, refused, accepted, firstOf}
 use Rattle.descriptions.specs.Refusals.{checkedTests}
-use Rattle.descriptions.proofs.FirstOf.{accepted-by}
+use Rattle.answers.proofs.FirstOf.{accepted-by}
 use Rattle.set_table.specs.Room.{Lengths, lengths, tableWords, roomTests}
 use Rattle.set_table.specs.Buffers.{Buffers, buffers, lengthsOf}
 use Rattle.set_table.proofs.Fitting.{fitting}

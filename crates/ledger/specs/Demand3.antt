@@ -10,7 +10,7 @@ use Rattle.surface.specs.Triangles.{shift}
 use Rattle.kinds.specs.Kinds.{vertexCount}
 use Rattle.kinds.specs.Claims.{Claims}
 use Rattle.curve.specs.Segments.{verticesIn}
-use Rattle.descriptions.specs.Answers.{AllPermitted, accepted}
+use Rattle.answers.specs.Answers.{AllPermitted, accepted}
 use Rattle.descriptions.specs.Descriptions.{topologyOf}
 use Rattle.descriptions.specs.Refusals.{checkedTests}
 use Rattle.descriptions.specs.declared.description.Description.{Description}

@@ -9,7 +9,7 @@ use lib.ListN.{length}
 use Rattle.laws.specs.Overwrite.{overwrite}
 use Rattle.float32.specs.Zeros.{zeros}
 use Rattle.surface.specs.Triangles.{flatten, shift}
-use Rattle.descriptions.specs.Answers.{Answer, refused, accepted, firstOf}
+use Rattle.answers.specs.Answers.{Answer, refused, accepted, firstOf}
 use Rattle.descriptions.specs.declared.description.Description.{Description}
 use Rattle.set_table.specs.Room.{Lengths}
 use Rattle.set_table.specs.declared.totals.Totals.{Totals}

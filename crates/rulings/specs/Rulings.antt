@@ -17,7 +17,8 @@ use Rattle.kinds.specs.declared.topology.Topology.{Topology}
 use Rattle.kinds.specs.declared.topology.Topology.the-variants.{Ribbon, Tube, Capsule, Torus}
 use Rattle.curve.specs.Segments.{vertexOf, segmentOf}
 use Rattle.curve.specs.Checks.{segmentRefused, segmentsPermitted, foldsPermitted}
-use Rattle.descriptions.specs.Answers.{Answer, Counts, refused, accepted}
+use Rattle.answers.specs.Answers.{Answer, refused, accepted}
+use Rattle.descriptions.specs.Answers.{Counts}
 use Rattle.descriptions.specs.Refusals.{countsOf, checkedOf, sizePermitted}
 use Rattle.descriptions.specs.declared.description.Description.the-variants as description
 

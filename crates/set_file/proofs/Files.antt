@@ -10,9 +10,8 @@ use lib.Ieee.{Float, nan, binary32, toBits}
 use lib.ListN.{length, getD, drop, length-append, length-drop, length-map, List·getD-append}
 use lib.Seq.{length-take-le, getD-take, getD-drop}
 use Rattle.laws.specs.Places.{getD-map}
-use Rattle.descriptions.specs.Answers.{Answer, Test, refused, accepted}
-use Rattle.descriptions.specs.Refusals.{test}
-use Rattle.descriptions.proofs.FirstOf.{accepted-by, passed-by, refused-by}
+use Rattle.answers.specs.Answers.{Answer, Test, refused, accepted, test}
+use Rattle.answers.proofs.FirstOf.{accepted-by, passed-by, refused-by}
 use Rattle.set_table.specs.Room.{tableWords, entryWords}
 use Rattle.set_table.specs.Table.{totalsIn, undamaged, readingOf}
 use Rattle.set_table.specs.Buffers.{Buffers}

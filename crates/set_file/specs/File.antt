@@ -4,8 +4,7 @@ use Prim.Native.Nat.{ℕ, _+_, _*_}
 use lib.Dec.{leb}
 use lib.Ieee.{Float, binary32, toBits}
 use lib.ListN.{length, getD, take, drop}
-use Rattle.descriptions.specs.Answers.{Answer, Test, firstOf}
-use Rattle.descriptions.specs.Refusals.{test}
+use Rattle.answers.specs.Answers.{Answer, Test, firstOf, test}
 use Rattle.set_table.specs.Room.{entryWords}
 use Rattle.set_table.specs.Table.{totalsIn, undamaged}
 use Rattle.set_table.specs.Buffers.{Buffers}

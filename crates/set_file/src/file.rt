@@ -6,11 +6,11 @@ ghost use Rattle.set_table.specs.Room.{mostBodies, tableWords};
 ghost use Rattle.set_table.specs.Buffers.{buffers};
 ghost use Rattle.set_file.specs.Answers.{wordAnswer};
 ghost use Rattle.set_file.specs.File.{fileHead, fileBehind, entriesHeld, verticesHeld, trianglesHeld, wordIn, fileWordOf};
-use crate::answers::FileWord;
+use crate::word::FileWord;
 use set_table::ENTRY_WORDS;
 use set_table::Reading;
 use set_table::Totals;
-use set_table::Why;
+use answers::Refusal;
 use set_table::read;
 
 // The edition of the file.
@@ -62,7 +62,7 @@ fn word_behind(
     if index < 3 * totals.triangles {
         return FileWord::Word(triangles[index]);
     }
-    FileWord::Refused(Why::PastEnd)
+    FileWord::Refused(Refusal::PastEnd)
 }
 
 // Any word of the file of the set, or 1, or 5 at its end and past it.
@@ -70,7 +70,7 @@ pub fn file_word(table: &[u32], vertices: &[f32], triangles: &[u32], place: usiz
     ensures { λ r. ⌜ wordAnswer r ≡ fileWordOf (buffers (now (table .entry)) (now (vertices .entry)) (now (triangles .entry))) place ⌝ }
 {
     match read(table, vertices.len(), triangles.len()) {
-        Reading::Damaged => FileWord::Refused(Why::DamagedTable),
+        Reading::Damaged => FileWord::Refused(Refusal::DamagedTable),
         Reading::Sound(totals) => {
             if place < FILE_HEAD {
                 return FileWord::Word(head_word(totals, place));

@@ -1,6 +1,6 @@
 // The file of a shared set, word by word.
-mod answers;
+mod word;
 mod file;
 
-pub use answers::FileWord;
+pub use word::FileWord;
 pub use file::file_word;

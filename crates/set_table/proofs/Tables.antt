@@ -9,9 +9,8 @@ use lib.ListN.{length}
 use Rattle.laws.specs.Conjunction.{both-true}
 use Rattle.laws.specs.Sums.{sum-next}
 use Rattle.laws.specs.Every.{every, every-more, every-fails}
-use Rattle.descriptions.specs.Answers.{Answer, refused, accepted, firstOf}
-use Rattle.descriptions.specs.Refusals.{test}
-use Rattle.descriptions.proofs.FirstOf.{accepted-by}
+use Rattle.answers.specs.Answers.{Answer, refused, accepted, firstOf, test}
+use Rattle.answers.proofs.FirstOf.{accepted-by}
 use Rattle.set_table.specs.Room.{mostBodies, tableWords, totalPermitted}
 use Rattle.set_table.specs.Table.{entryIn, bodiesIn, verticesBefore, trianglesBefore, entrySound, entryInSound}
 use Rattle.set_table.specs.Table.{headSound, undamaged, totalsIn, readingOf}

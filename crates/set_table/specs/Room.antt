@@ -5,8 +5,7 @@ use mathlib.Core.List.{List, [], _∷_}
 use Prim.Native.Nat.{ℕ, _+_, _*_, _≤_}
 use lib.Dec.{eqb, leb}
 use Rattle.surface.specs.Limits.{mostInAll}
-use Rattle.descriptions.specs.Answers.{Test, AllPermitted}
-use Rattle.descriptions.specs.Refusals.{test}
+use Rattle.answers.specs.Answers.{Test, AllPermitted, test}
 use Rattle.set_table.specs.declared.totals.Totals.{Totals}
 
 -- "B above 64" (1), "B is 64" (2): the most bodies that a set may have

@@ -8,8 +8,7 @@ use lib.ListN.{length, getD}
 use Rattle.laws.specs.Every.{every}
 use Rattle.laws.specs.Sums.{sumBelow}
 use Rattle.kinds.specs.Limits.{between}
-use Rattle.descriptions.specs.Answers.{Answer, firstOf}
-use Rattle.descriptions.specs.Refusals.{test}
+use Rattle.answers.specs.Answers.{Answer, firstOf, test}
 use Rattle.descriptions.specs.KindNumbers.{lastKind}
 use Rattle.set_table.specs.Room.{mostBodies, tableWords, totalPermitted}
 use Rattle.set_table.specs.declared.totals.Totals.{Totals}

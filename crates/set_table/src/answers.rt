@@ -1,8 +1,8 @@
 ghost use mathlib.Core.Path.{_≡_};
-ghost use Rattle.set_table.specs.Answers.{whyNumber};
-use descriptions::Refusal;
+ghost use Rattle.answers.specs.Answers.{numberOf};
+use answers::Refusal;
 
-// Why a call is refused; document 01's number for each is `whyNumber` in specs/Answers.antt.
+// Why a call is refused; document 01's number for each is `numberOf` in specs/Answers.antt.
 pub enum Why {
     DamagedTable,
     NoEntry,
@@ -15,15 +15,15 @@ pub enum Why {
 impl Why {
     // Document 01's number.
     pub fn number(self) -> u32
-        ensures { λ r. ⌜ r ≡ whyNumber self ⌝ }
+        ensures { λ r. ⌜ r ≡ numberOf self ⌝ }
     {
         match self {
-            Why::DamagedTable => 1,
-            Why::NoEntry => 2,
-            Why::NoVertices => 3,
-            Why::NoTriangles => 4,
-            Why::PastEnd => 5,
-            Why::Body(why) => why.number(),
+            Refusal::DamagedTable => 1,
+            Refusal::NoEntry => 2,
+            Refusal::NoVertices => 3,
+            Refusal::NoTriangles => 4,
+            Refusal::PastEnd => 5,
+            why => why.number(),
         }
     }
 }

@@ -1,9 +1,8 @@
 ghost use mathlib.Core.Path.{_≡_};
 ghost use Prim.Native.Nat.{_+_};
-ghost use Rattle.descriptions.specs.Answers.{firstOf};
+ghost use Rattle.answers.specs.Answers.{firstOf, outcomeAnswer};
 ghost use Rattle.kinds.specs.Kinds.{vertexCount, triangleCount};
 ghost use Rattle.set_table.specs.Room.{lengths, totalPermitted, entryPermitted, roomTests};
-ghost use Rattle.set_table.specs.Answers.{roomAnswer};
 use crate::answers::Why;
 use crate::entries::ENTRY_WORDS;
 use crate::entries::MOST_BODIES;
@@ -41,7 +40,7 @@ fn is_entry_permitted(bodies: u32, room: usize) -> bool
 // What 2, 3 and 4 say.
 pub enum Room {
     Enough,
-    Refused(Why),
+    Refused(Refusal),
 }
 
 // Refusals 2, 3 and 4 of a body behind those of a set, in buffers of so many elements.
@@ -52,17 +51,17 @@ pub fn check_room(
     vertices: usize,
     triangles: usize,
 ) -> Room
-    ensures { λ r. ⌜ roomAnswer r
+    ensures { λ r. ⌜ outcomeAnswer r
         ≡ firstOf (roomTests (lengths table vertices triangles) totals (vertexCount body) (triangleCount body)) tt ⌝ }
 {
     if !is_entry_permitted(totals.bodies, table) {
-        return Room::Refused(Why::NoEntry);
+        return Room::Refused(Refusal::NoEntry);
     }
     if !is_sum_permitted(totals.vertices, body.vertex_count(), vertices) {
-        return Room::Refused(Why::NoVertices);
+        return Room::Refused(Refusal::NoVertices);
     }
     if !is_sum_permitted(totals.triangles, body.triangle_count(), triangles) {
-        return Room::Refused(Why::NoTriangles);
+        return Room::Refused(Refusal::NoTriangles);
     }
     Room::Enough
 }

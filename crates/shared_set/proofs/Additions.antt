@@ -9,23 +9,21 @@ use lib.ListN.{length}
 use Rattle.kinds.specs.Kinds.{vertexCount, triangleCount}
 use Rattle.kinds.specs.declared.topology.Topology.{Topology}
 use Rattle.curve.specs.Segments.{verticesIn}
-use Rattle.descriptions.specs.Answers.{Answer, Test, AllPermitted, refused, accepted, firstOf, numberOf}
+use Rattle.answers.specs.Answers.{Answer, Test, AllPermitted, refused, accepted, firstOf, numberOf, notFinite}
 use Rattle.descriptions.specs.Descriptions.{topologyOf}
 use Rattle.descriptions.specs.Refusals.{shapeTests, ShapePermitted, checkedTests, checkedOf}
-use Rattle.descriptions.specs.declared.answers.Refusal.{Refusal}
-use Rattle.descriptions.specs.declared.answers.Refusal.the-variants as refusal
+use Rattle.answers.specs.declared.refusal.Refusal.{Refusal}
+use Rattle.answers.specs.declared.refusal.Refusal.the-variants as refusal
 use Rattle.descriptions.specs.declared.description.Description.{Description}
-use Rattle.descriptions.proofs.FirstOf.{accepted-by, passed-by, refused-by}
+use Rattle.answers.proofs.FirstOf.{accepted-by, passed-by, refused-by}
 use Rattle.descriptions.proofs.Shapes.{checked-shape}
 use Rattle.set_table.specs.Room.{Lengths, roomTests}
-use Rattle.set_table.specs.Answers.{whyNumber}
 use Rattle.set_table.specs.Buffers.{Buffers}
 use Rattle.set_table.specs.declared.answers.Why.{Why}
 use Rattle.set_table.specs.declared.answers.Why.the-variants as why
 use Rattle.set_table.specs.declared.totals.Totals.{Totals}
 use Rattle.shared_set.specs.Bodies.{Body, vertexCountIn, triangleCountIn, bodyAlone}
 use Rattle.shared_set.specs.Additions.{finiteTests, placeTests, additionTests}
-use Rattle.shared_set.specs.Answers.{notFinite}
 use Rattle.shared_set.specs.Set.{after, withZeros, settledAs}
 use Rattle.shared_set.proofs.Counts.{vertices-counted, triangles-counted}
 
@@ -39,7 +37,7 @@ body-number refusal.Divisions = refl
 body-number refusal.Layers = refl
 body-number refusal.Size = refl
 
-other-number : (w : Why) → eqb (whyNumber w) notFinite ≡ false
+other-number : (w : Why) → eqb (numberOf w) notFinite ≡ false
 other-number why.DamagedTable = refl
 other-number why.NoEntry = refl
 other-number why.NoVertices = refl
@@ -48,10 +46,10 @@ other-number why.PastEnd = refl
 other-number (why.Body r) = body-number r
 
 -- "leave all buffers untouched, save 23"
-pub untouched : (w : Why) (t : Totals) (b : Body) (s : Buffers) {answer : Answer (Unit {0})} → refused (whyNumber w) ≡ answer
-    → after (refused (whyNumber w)) (s .table) (s .vertices) (s .triangles) ≡ settledAs t b s answer
+pub untouched : (w : Why) (t : Totals) (b : Body) (s : Buffers) {answer : Answer (Unit {0})} → refused (numberOf w) ≡ answer
+    → after (refused (numberOf w)) (s .table) (s .vertices) (s .triangles) ≡ settledAs t b s answer
 untouched w t b s h =
-    (λ j. after (refused (whyNumber w)) (s .table) (cond (sym (other-number w) j) (withZeros t b (s .vertices)) (s .vertices)) (s .triangles))
+    (λ j. after (refused (numberOf w)) (s .table) (cond (sym (other-number w) j) (withZeros t b (s .vertices)) (s .vertices)) (s .triangles))
     ∙ ap (settledAs t b s) h
 
 abbrev pub answerOf : List Test → Answer (Unit {0})

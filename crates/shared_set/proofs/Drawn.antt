@@ -16,11 +16,11 @@ use Rattle.float32.proofs.ZeroCounts.{length-zeros}
 use Rattle.kinds.specs.Kinds.{permitted, vertexCount, triangleCount}
 use Rattle.kinds.specs.declared.topology.Topology.{Topology}
 use Rattle.curve.specs.Segments.{verticesIn}
-use Rattle.descriptions.specs.Answers.{accepted, refused}
+use Rattle.answers.specs.Answers.{accepted, refused, notFinite}
 use Rattle.descriptions.specs.Descriptions.{topologyOf}
 use Rattle.descriptions.specs.Refusals.{shapeTests}
 use Rattle.descriptions.specs.declared.description.Description.{Description}
-use Rattle.descriptions.proofs.FirstOf.{accepted-by, passed-by}
+use Rattle.answers.proofs.FirstOf.{accepted-by, passed-by}
 use Rattle.descriptions.proofs.Shapes.{shape-permitted}
 use Rattle.bodies.specs.Bodies.{verticesOf, drawable}
 use Rattle.bodies.proofs.Drawable as drawables
@@ -30,7 +30,6 @@ use Rattle.set_table.specs.Buffers.{Buffers, buffers, lengthsOf}
 use Rattle.set_table.specs.declared.totals.Totals.{Totals}
 use Rattle.set_table.proofs.Fitting.{Fitting, fitting}
 use Rattle.shared_set.specs.Bodies.{Body, bodyWith, bodyAlone, stretchOf}
-use Rattle.shared_set.specs.Answers.{notFinite}
 use Rattle.shared_set.specs.Set.{After, after, withBody, settledAs, settledBody, addedBehind}
 use Rattle.shared_set.proofs.Additions.{Checked, answerOf, told, enough-room}
 

@@ -3,8 +3,8 @@
 use mathlib.Core.List.{List, [], _∷_, _++_}
 use lib.Ieee.{Float}
 use Rattle.float32.specs.Scan.{allFinite}
-use Rattle.descriptions.specs.Answers.{Test}
-use Rattle.descriptions.specs.Refusals.{test, checkedTests}
+use Rattle.answers.specs.Answers.{Test, test}
+use Rattle.descriptions.specs.Refusals.{checkedTests}
 use Rattle.descriptions.specs.declared.description.Description.{Description}
 use Rattle.set_table.specs.Room.{Lengths, roomTests}
 use Rattle.set_table.specs.declared.totals.Totals.{Totals}

@@ -9,8 +9,7 @@ use lib.ListN.{length}
 use Rattle.laws.specs.Overwrite.{overwrite}
 use Rattle.float32.specs.Zeros.{zeros}
 use Rattle.surface.specs.Triangles.{flatten, shift}
-use Rattle.descriptions.specs.Answers.{Answer, Test, refused, accepted, firstOf}
-use Rattle.descriptions.specs.Refusals.{test}
+use Rattle.answers.specs.Answers.{Answer, Test, refused, accepted, firstOf, test, notFinite}
 use Rattle.descriptions.specs.declared.description.Description.{Description}
 use Rattle.set_table.specs.Room.{tableWords}
 use Rattle.set_table.specs.Buffers.{Buffers, buffers, lengthsOf}
@@ -19,7 +18,6 @@ use Rattle.set_table.specs.declared.totals.Totals.{Totals}
 use Rattle.set_table.specs.declared.entries.Entry.{Entry}
 use Rattle.shared_set.specs.Bodies.{Body, vertexCountIn, triangleCountIn, bodyAlone}
 use Rattle.shared_set.specs.Additions.{finiteTests, additionTests}
-use Rattle.shared_set.specs.Answers.{notFinite}
 
 -- a call's answer, and the buffers after it
 pub record After : Type 0 where

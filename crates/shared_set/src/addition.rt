@@ -4,7 +4,7 @@ ghost use lib.ListN.{length};
 ghost use Rattle.surface.specs.Limits.{mostInAll};
 ghost use Rattle.set_table.specs.Room.{mostBodies};
 ghost use Rattle.set_table.specs.Buffers.{buffers};
-ghost use Rattle.shared_set.specs.Answers.{outcomeAnswer};
+ghost use Rattle.answers.specs.Answers.{outcomeAnswer};
 ghost use Rattle.shared_set.specs.Set.{after, addedBehind, added};
 use crate::answers::Outcome;
 use crate::place::place;
@@ -15,7 +15,7 @@ use descriptions::Verdict;
 use set_table::Reading;
 use set_table::Room;
 use set_table::Totals;
-use set_table::Why;
+use answers::Refusal;
 use set_table::read;
 
 // The refusals behind 1, and the body behind those that the table has. The room is known first, so that what has none is not drawn.
@@ -42,7 +42,7 @@ fn add_behind(
         triangles.len(),
     );
     match draw(totals.vertices, room, description, curve, vertices) {
-        Verdict::Refused(why) => Outcome::Refused(Why::Body(why)),
+        Verdict::Refused(why) => Outcome::Refused(why),
         Verdict::Accepted(body) => {
             match room {
                 Room::Refused(why) => Outcome::Refused(why),
@@ -64,7 +64,7 @@ pub fn add(
         ≡ added description (now (curve .entry)) (buffers (now (table .entry)) (now (vertices .entry)) (now (triangles .entry))) ⌝ }
 {
     match read(table, vertices.len(), triangles.len()) {
-        Reading::Damaged => Outcome::Refused(Why::DamagedTable),
+        Reading::Damaged => Outcome::Refused(Refusal::DamagedTable),
         Reading::Sound(totals) => add_behind(
             totals,
             description,

@@ -1,13 +1,12 @@
 ghost use mathlib.Core.Path.{_≡_};
-ghost use Rattle.descriptions.specs.Answers.{numberIn};
-ghost use Rattle.shared_set.specs.Answers.{outcomeAnswer};
-use set_table::Why;
+ghost use Rattle.answers.specs.Answers.{numberIn, outcomeAnswer};
+use answers::Refusal;
 
 // What clear and add answer. What is not finite, 23, alone touches a buffer though it is refused.
 pub enum Outcome {
     Accepted,
     NotFinite,
-    Refused(Why),
+    Refused(Refusal),
 }
 
 impl Outcome {
@@ -17,7 +16,7 @@ impl Outcome {
     {
         match self {
             Outcome::Accepted => 0,
-            Outcome::NotFinite => 23,
+            Outcome::Refused(Refusal::NotFinite) => 23,
             Outcome::Refused(why) => why.number(),
         }
     }

@@ -1,8 +1,8 @@
 ghost use mathlib.Core.Path.{_≡_};
-ghost use Rattle.shared_set.specs.Answers.{outcomeAnswer};
+ghost use Rattle.answers.specs.Answers.{outcomeAnswer};
 ghost use Rattle.shared_set.specs.Set.{clearAnswer, cleared};
 use crate::answers::Outcome;
-use set_table::Why;
+use answers::Refusal;
 
 // Word 0 becomes 0, whatever the table holds; 1 for an empty one.
 pub fn clear(table: &mut [u32]) -> Outcome
@@ -10,7 +10,7 @@ pub fn clear(table: &mut [u32]) -> Outcome
     ensures { λ _. ⌜ now (table .exit) ≡ cleared (now (table .entry)) ⌝ }
 {
     if table.len() == 0 {
-        return Outcome::Refused(Why::DamagedTable);
+        return Outcome::Refused(Refusal::DamagedTable);
     }
     table[0] = 0;
     Outcome::Accepted

@@ -4,7 +4,7 @@ ghost use Rattle.kinds.specs.Kinds.{permitted, vertexCount, triangleCount};
 ghost use Rattle.set_table.specs.Room.{Fits};
 ghost use Rattle.set_table.specs.Buffers.{buffers, lengthsOf};
 ghost use Rattle.shared_set.specs.Bodies.{bodyWith, stretchOf};
-ghost use Rattle.shared_set.specs.Answers.{outcomeAnswer};
+ghost use Rattle.answers.specs.Answers.{outcomeAnswer};
 ghost use Rattle.shared_set.specs.Set.{after, settledBody};
 use crate::answers::Outcome;
 use crate::entry::write_entry;
@@ -31,7 +31,7 @@ pub(crate) fn place(
 {
     let first = totals.vertices;
     if !settle(first, body, vertices) {
-        return Outcome::NotFinite;
+        return Outcome::Refused(Refusal::NotFinite);
     }
     let at = 3 * totals.triangles;
     body.write_triangles(first as u32, &mut triangles[at..]);

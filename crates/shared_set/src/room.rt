@@ -1,16 +1,15 @@
 ghost use mathlib.Core.Path.{_≡_};
 ghost use mathlib.Core.List.{_++_};
 ghost use Rattle.kinds.specs.Kinds.{vertexCount, triangleCount};
-ghost use Rattle.descriptions.specs.Answers.{isAccepted, firstOf};
+ghost use Rattle.answers.specs.Answers.{isAccepted, firstOf, outcomeAnswer};
 ghost use Rattle.descriptions.specs.Descriptions.{topologyOf};
 ghost use Rattle.descriptions.specs.Refusals.{shapeTests};
 ghost use Rattle.set_table.specs.Room.{lengths, roomTests};
-ghost use Rattle.set_table.specs.Answers.{roomAnswer};
 use descriptions::Description;
 use descriptions::Verdict;
 use set_table::Room;
 use set_table::Totals;
-use set_table::Why;
+use answers::Refusal;
 use set_table::check_room;
 
 // Refusals 10, 20, 21, 2, 3 and 4 of the body of a description and so many curve vertices, by its numbers alone: whether there is room for
@@ -23,18 +22,18 @@ pub(crate) fn room_behind(
     vertices: usize,
     triangles: usize,
 ) -> Room
-    ensures { λ r. let body = topologyOf description count in ⌜ roomAnswer r
+    ensures { λ r. let body = topologyOf description count in ⌜ outcomeAnswer r
         ≡ firstOf (shapeTests description count ++ roomTests (lengths table vertices triangles) totals (vertexCount body) (triangleCount body)) tt ⌝ }
 {
     match description.shape(count) {
-        Verdict::Refused(why) => Room::Refused(Why::Body(why)),
+        Verdict::Refused(why) => Room::Refused(why),
         Verdict::Accepted(body) => check_room(totals, body, table, vertices, triangles),
     }
 }
 
 // Whether none of those refusals holds.
 pub(crate) fn is_enough(room: Room) -> bool
-    ensures { λ r. ⌜ r ≡ isAccepted (roomAnswer room) ⌝ }
+    ensures { λ r. ⌜ r ≡ isAccepted (outcomeAnswer room) ⌝ }
 {
     match room {
         Room::Enough => true,

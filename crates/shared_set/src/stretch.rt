@@ -8,10 +8,10 @@ ghost use Rattle.float32.specs.Zeros.{zeros};
 ghost use Rattle.laws.specs.Overwrite.{overwrite};
 ghost use Rattle.surface.specs.Limits.{mostInAll};
 ghost use Rattle.kinds.specs.Kinds.{vertexCount};
-ghost use Rattle.descriptions.specs.Answers.{isAccepted, verdictAnswer};
+ghost use Rattle.answers.specs.Answers.{isAccepted, outcomeAnswer};
+ghost use Rattle.descriptions.specs.Answers.{verdictAnswer};
 ghost use Rattle.descriptions.specs.Refusals.{checkedOf};
 ghost use Rattle.bodies.specs.Bodies.{verticesOf, drawable};
-ghost use Rattle.set_table.specs.Answers.{roomAnswer};
 ghost use Rattle.shared_set.specs.Bodies.{stretchOf};
 use crate::room::is_enough;
 use descriptions::Description;
@@ -32,7 +32,7 @@ pub(crate) fn draw(
     requires { ⌜ 3 * first ≤ length (now vertices) ⌝ }
     ensures { λ r. ⌜ verdictAnswer r ≡ checkedOf description (now (curve .entry)) ⌝ }
     ensures { λ r. let rest = length (now (vertices .entry)) - 3 * first in
-        let written = isAccepted (verdictAnswer r) && (isAccepted (roomAnswer room) && drawable description (now (curve .entry)) rest) in
+        let written = isAccepted (verdictAnswer r) && (isAccepted (outcomeAnswer room) && drawable description (now (curve .entry)) rest) in
         ⌜ now (vertices .exit) ≡ overwrite (3 * first) (cond written (verticesOf description (now (curve .entry))) []) (now (vertices .entry)) ⌝ }
 {
     let at = 3 * first;

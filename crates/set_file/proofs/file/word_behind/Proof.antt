@@ -1,7 +1,7 @@
 -- Each of the four returns is what the file has there. Assumes nothing.
 use mathlib.Core.Path.{ap, _∙_}
 use borrow.Author.Needs.{needs}
-use Rattle.descriptions.specs.Answers.{accepted}
+use Rattle.answers.specs.Answers.{accepted}
 use Rattle.set_table.specs.Buffers.{buffers}
 use Rattle.set_file.proofs.Files.{entry-word, vertex-word, triangle-word, no-word}
 use Rattle.set_file.proofs.file.word_behind.Statement.{statement}

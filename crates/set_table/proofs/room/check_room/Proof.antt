@@ -4,7 +4,7 @@ use mathlib.Core.Bool.{true}
 use Prim.Native.Nat.{ℕ, _+_}
 use borrow.Author.Needs.{needs}
 use Rattle.kinds.specs.Kinds.{vertexCount, triangleCount}
-use Rattle.descriptions.proofs.FirstOf.{permits, refuses}
+use Rattle.answers.proofs.FirstOf.{permits, refuses}
 use Rattle.set_table.specs.Room.{totalPermitted, entryPermitted}
 use Rattle.set_table.proofs.room.check_room.Statement.{statement}
 use Rattle.set_table.proofs.room.check_room.Tie as tie

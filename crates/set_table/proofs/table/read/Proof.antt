@@ -8,7 +8,7 @@ use borrow.Author.Needs.{needs}
 use denote.Ref.{now}
 use lib.ListN.{length}
 use Rattle.kinds.proofs.Answers.{passed, failed}
-use Rattle.descriptions.proofs.FirstOf.{permits, refuses}
+use Rattle.answers.proofs.FirstOf.{permits, refuses}
 use Rattle.set_table.specs.Room.{tableWords}
 use Rattle.set_table.specs.Table.{bodiesIn, headSound, readingOf}
 use Rattle.set_table.proofs.Tables.{bothPermitted, head-bounds, answered, Summed, summed-next, head-damaged, entry-damaged, summed-read}

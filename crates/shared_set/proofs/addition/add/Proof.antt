@@ -6,9 +6,8 @@ use borrow.Author.Needs.{needs}
 use denote.Ref.{now}
 use lib.ListN.{length}
 use Rattle.surface.specs.Limits.{mostInAll}
-use Rattle.descriptions.specs.Answers.{Test, accepted}
-use Rattle.descriptions.specs.Refusals.{test}
-use Rattle.descriptions.proofs.FirstOf.{accepted-by, passed-by, refused-by}
+use Rattle.answers.specs.Answers.{Test, accepted, test}
+use Rattle.answers.proofs.FirstOf.{accepted-by, passed-by, refused-by}
 use Rattle.set_table.specs.Room.{mostBodies}
 use Rattle.set_table.specs.Table.{totalsIn, undamaged, readingOf}
 use Rattle.set_table.specs.Buffers.{Buffers, buffers, lengthsOf}

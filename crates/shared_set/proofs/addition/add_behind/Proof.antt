@@ -9,13 +9,13 @@ use denote.Ref.{now}
 use lib.Ieee.{Float}
 use lib.ListN.{length}
 use Rattle.laws.specs.Overwrite.{overwrite, overwrite-none}
-use Rattle.descriptions.specs.Answers.{Test, accepted, refused, isAccepted, numberOf, verdictAnswer}
+use Rattle.answers.specs.Answers.{Test, accepted, refused, isAccepted, numberOf, outcomeAnswer}
+use Rattle.descriptions.specs.Answers.{verdictAnswer}
 use Rattle.descriptions.specs.Descriptions.{topologyOf}
 use Rattle.descriptions.specs.Refusals.{checkedTests}
-use Rattle.descriptions.specs.declared.answers.Verdict.{Verdict}
-use Rattle.descriptions.proofs.FirstOf.{refused-by}
+use Rattle.descriptions.specs.declared.verdict.Verdict.{Verdict}
+use Rattle.answers.proofs.FirstOf.{refused-by}
 use Rattle.bodies.specs.Bodies.{drawable}
-use Rattle.set_table.specs.Answers.{whyNumber, roomAnswer}
 use Rattle.set_table.specs.Buffers.{Buffers, buffers, lengthsOf}
 use Rattle.set_table.specs.declared.answers.Why.the-variants as why
 use Rattle.set_table.specs.declared.room.Room.{Room}
@@ -53,7 +53,7 @@ abbrev left : tie.After-draw → List Float
 left d = d .draw .last .1 .1 .1 .1 .0
 
 drew : (d : tie.After-draw) {accepts enough : Bool} → isAccepted (verdictAnswer (d .draw .result)) ≡ accepts
-    → isAccepted (roomAnswer (d .before .before .room-behind .result)) ≡ enough
+    → isAccepted (outcomeAnswer (d .before .before .room-behind .result)) ≡ enough
     → left d ≡ drawing (start d) (accepts && (enough && fits (start d)))
 drew d accepts enough =
     let s = start d in
@@ -82,14 +82,14 @@ abbrev tests : tie.After-body → List Test
 tests b = let s = start (drawn b) in told (s .args .description) (curve s) (lengthsOf (held s)) (s .args .totals) (accepting b)
 
 enough : (e : tie.After-enum-told) → accepted tt ≡ answerOf (tests (bodied e))
-enough e = sym (ap roomAnswer (e .enum-told .given .1)) ∙ drawn (bodied e) .before .before .room-behind .ensures
+enough e = sym (ap outcomeAnswer (e .enum-told .given .1)) ∙ drawn (bodied e) .before .before .room-behind .ensures
 
 whole-drawn : (e : tie.After-enum-told) → let s = start (drawn (bodied e)) in left (drawn (bodied e)) ≡ drawing s true
 whole-drawn e =
     let b = bodied e in
     let s = start (drawn b) in
     let a = s .args in
-    drew (drawn b) (is-accepted b) (ap (λ (r : Room). isAccepted (roomAnswer r)) (e .enum-told .given .1))
+    drew (drawn b) (is-accepted b) (ap (λ (r : Room). isAccepted (outcomeAnswer r)) (e .enum-told .given .1))
     ∙ ap (drawing s) (whole (a .description) (curve s) (a .totals) (held s) (accepting b) (enough e) (s .pre .0))
 
 room-behind-requires : tie.Need-room-behind-requires
@@ -144,9 +144,9 @@ returns-2 c = let y = c .before in
     let s = start d in
     let a = s .args in
     let w = y .room .given .0 .0 in
-    let refusal = sym (ap roomAnswer (y .room .given .1)) ∙ d .before .before .room-behind .ensures in
-    let kept = drew d (is-accepted b) (ap (λ (r : Room). isAccepted (roomAnswer r)) (y .room .given .1)) ∙ none s in
-    (λ j. after (refused (whyNumber w)) (held s .table) (kept j) (held s .triangles))
+    let refusal = sym (ap outcomeAnswer (y .room .given .1)) ∙ d .before .before .room-behind .ensures in
+    let kept = drew d (is-accepted b) (ap (λ (r : Room). isAccepted (outcomeAnswer r)) (y .room .given .1)) ∙ none s in
+    (λ j. after (refused (numberOf w)) (held s .table) (kept j) (held s .triangles))
     ∙ untouched w (a .totals) (body s) (held s) (refused-room (a .description) (curve s) (lengthsOf (held s)) (a .totals) (accepting b) refusal)
 
 same-length-3 : tie.Need-same-length-3

@@ -17,12 +17,11 @@ use Rattle.float32.specs.Zeros.{zeros}
 use Rattle.surface.specs.Triangles.{flatten, shift}
 use Rattle.kinds.specs.Kinds.{vertexCount, triangleCount, trianglesOf, writable}
 use Rattle.kinds.proofs.Claims.{permitted-claims}
-use Rattle.descriptions.specs.Answers.{accepted, refused}
+use Rattle.answers.specs.Answers.{accepted, refused, notFinite}
 use Rattle.set_table.specs.Buffers.{Buffers, buffers, lengthsOf}
 use Rattle.set_table.specs.declared.entries.Entry.{Entry}
 use Rattle.set_table.proofs.Fitting.{Fitting, fitting}
 use Rattle.shared_set.specs.Bodies.{Body, bodyWith, stretchOf}
-use Rattle.shared_set.specs.Answers.{notFinite}
 use Rattle.shared_set.specs.Set.{After, after, entryOf, withEntry, settledAs}
 use Rattle.shared_set.proofs.Counts.{stretch-counted}
 use Rattle.shared_set.proofs.place.place.Statement.{statement}

@@ -4,10 +4,10 @@ use mathlib.Core.List.{List}
 use borrow.Author.Needs.{needs}
 use Rattle.kinds.specs.Kinds.{vertexCount, triangleCount}
 use Rattle.kinds.specs.declared.topology.Topology.{Topology}
-use Rattle.descriptions.specs.Answers.{Test, firstOf}
+use Rattle.answers.specs.Answers.{Test, firstOf}
 use Rattle.descriptions.specs.Descriptions.{topologyOf}
 use Rattle.descriptions.specs.Refusals.{shapeTests}
-use Rattle.descriptions.proofs.FirstOf.{accepted-by, passed-by, refused-by}
+use Rattle.answers.proofs.FirstOf.{accepted-by, passed-by, refused-by}
 use Rattle.set_table.specs.Room.{lengths, roomTests}
 use Rattle.shared_set.proofs.room.room_behind.Statement.{statement}
 use Rattle.shared_set.proofs.room.room_behind.Tie as tie

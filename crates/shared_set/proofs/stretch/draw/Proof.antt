@@ -10,9 +10,9 @@ use lib.Ieee.{Float}
 use lib.ListN.{length}
 use Rattle.laws.specs.Overwrite.{overwrite, placed, overwrite-none}
 use Rattle.laws.specs.Lent.{lent-from, length-rest}
-use Rattle.descriptions.specs.Answers.{isAccepted, verdictAnswer}
+use Rattle.answers.specs.Answers.{isAccepted, outcomeAnswer}
+use Rattle.descriptions.specs.Answers.{verdictAnswer}
 use Rattle.bodies.specs.Bodies.{verticesOf, drawable}
-use Rattle.set_table.specs.Answers.{roomAnswer}
 use Rattle.shared_set.proofs.stretch.draw.Statement.{statement}
 use Rattle.shared_set.proofs.stretch.draw.Tie as tie
 
@@ -70,7 +70,7 @@ same-length c = search needs
 returns : tie.Need-returns
 returns c = let w = c .before .before in
     let s = start w in
-    let enough = isAccepted (roomAnswer (s .args .room)) in
+    let enough = isAccepted (outcomeAnswer (s .args .room)) in
     let rest = length (old s) - at s in
     let part : w .write-checked .last .1 .1 .1 .0 ≡ overwrite 0 (cond (written w enough rest) (list s) []) (lent s) =
     w .write-checked .ensures .1

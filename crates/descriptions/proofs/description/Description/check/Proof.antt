@@ -4,7 +4,7 @@ use Prim.Native.Nat.{_/_}
 use lib.ListN.{length}
 use Rattle.descriptions.specs.Descriptions.{topologyOf}
 use Rattle.descriptions.specs.Refusals.{segmentTests, foldTests}
-use Rattle.descriptions.proofs.FirstOf.{accepted-by, refused-by}
+use Rattle.answers.proofs.FirstOf.{accepted-by, refused-by}
 use Rattle.descriptions.proofs.Shapes.{segments-shape}
 use Rattle.descriptions.proofs.Checked.{fold-answer}
 use borrow.Author.Needs.{needs}

@@ -1,7 +1,7 @@
 -- Three tests, one behind the other. Assumes nothing.
 use mathlib.Core.Path.{_∙_}
 use Rattle.curve.specs.Checks.{segmentsPermitted}
-use Rattle.descriptions.proofs.FirstOf.{permits, refuses}
+use Rattle.answers.proofs.FirstOf.{permits, refuses}
 use Rattle.descriptions.proofs.Checked.{along}
 use borrow.Author.Needs.{needs}
 use Rattle.descriptions.proofs.description.Description.check_floats.Statement.{statement}

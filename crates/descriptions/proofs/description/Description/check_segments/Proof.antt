@@ -6,7 +6,7 @@ use borrow.Author.Tests.{eq-eqb, ne-eqb}
 use Rattle.kinds.specs.declared.topology.Topology.{Topology}
 use Rattle.descriptions.specs.Descriptions.{topologyOf}
 use Rattle.descriptions.specs.Refusals.{shapeTests, floatTests, floatsOf}
-use Rattle.descriptions.proofs.FirstOf.{accepted-by, refused-by, passed-by}
+use Rattle.answers.proofs.FirstOf.{accepted-by, refused-by, passed-by}
 use borrow.Author.Needs.{needs}
 use Rattle.descriptions.proofs.description.Description.check_segments.Statement.{statement}
 use Rattle.descriptions.proofs.description.Description.check_segments.Tie as tie

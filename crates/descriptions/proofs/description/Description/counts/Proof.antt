@@ -2,10 +2,11 @@
 use mathlib.Core.Path.{_≡_, sym, ap, _∙_}
 use mathlib.Core.List.{[], _∷_}
 use native.Mathlib.Omega.{arith}
-use Rattle.descriptions.specs.Answers.{Counts, accepted}
+use Rattle.answers.specs.Answers.{accepted, test}
+use Rattle.descriptions.specs.Answers.{Counts}
 use Rattle.descriptions.specs.Descriptions.{topologyOf}
-use Rattle.descriptions.specs.Refusals.{sizesPermitted, test, shapeTests, bodyCounts}
-use Rattle.descriptions.proofs.FirstOf.{accepted-by, refused-by}
+use Rattle.descriptions.specs.Refusals.{sizesPermitted, shapeTests, bodyCounts}
+use Rattle.answers.proofs.FirstOf.{accepted-by, refused-by}
 use Rattle.descriptions.proofs.Shapes.{counts-most, accepted-permitted}
 use borrow.Author.Needs.{needs}
 use Rattle.descriptions.proofs.description.Description.counts.Statement.{statement}

@@ -1,7 +1,7 @@
 -- Three tests, one behind the other. Assumes nothing.
 use mathlib.Core.Path.{ap}
-use Rattle.descriptions.specs.Answers.{accepted}
-use Rattle.descriptions.proofs.FirstOf.{permits, refuses}
+use Rattle.answers.specs.Answers.{accepted}
+use Rattle.answers.proofs.FirstOf.{permits, refuses}
 use borrow.Author.Needs.{needs}
 use Rattle.descriptions.proofs.description.Description.shape.Statement.{statement}
 use Rattle.descriptions.proofs.description.Description.shape.Tie as tie

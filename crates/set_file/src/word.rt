@@ -1,7 +1,7 @@
-use set_table::Why;
+use answers::Refusal;
 
 // What file word answers.
 pub enum FileWord {
     Word(u32),
-    Refused(Why),
+    Refused(Refusal),
 }

@@ -6,7 +6,7 @@ use Prim.Native.Nat.{ℕ}
 use native.Mathlib.Omega.{arith}
 use borrow.Author.Tests.{not-true, not-false}
 use lib.Dec.{T}
-use Rattle.descriptions.specs.Answers.{Answer, Test, AllPermitted, refused, accepted, isAccepted, firstOf}
+use Rattle.answers.specs.Answers.{Answer, Test, AllPermitted, refused, accepted, isAccepted, firstOf}
 
 -- what `if !test` tells on its two ways
 pub refuses : {x p : Bool} → x ≡ p → not x ≡ true → p ≡ false

@@ -1,9 +1,14 @@
 ghost use mathlib.Core.Path.{_≡_};
-ghost use Rattle.descriptions.specs.Answers.{numberOf};
-use kinds::Topology;
+ghost use Rattle.answers.specs.Answers.{numberOf};
 
-// Why a description or its curve is refused; document 01's number for each is `numberOf` in specs/Answers.antt.
+// Why a call is refused: every reason of document 01, 'Refused, and through whom', in the order of
+// their numbers.
 pub enum Refusal {
+    DamagedTable,
+    NoEntry,
+    NoVertices,
+    NoTriangles,
+    PastEnd,
     CurveVertices,
     CurveNotFinite,
     Segment,
@@ -11,14 +16,20 @@ pub enum Refusal {
     Divisions,
     Layers,
     Size,
+    NotFinite,
 }
 
 impl Refusal {
-    // Document 01's number.
+    // Document 01's number of the reason.
     pub fn number(self) -> u32
         ensures { λ r. ⌜ r ≡ numberOf self ⌝ }
     {
         match self {
+            Refusal::DamagedTable => 1,
+            Refusal::NoEntry => 2,
+            Refusal::NoVertices => 3,
+            Refusal::NoTriangles => 4,
+            Refusal::PastEnd => 5,
             Refusal::CurveVertices => 10,
             Refusal::CurveNotFinite => 11,
             Refusal::Segment => 12,
@@ -26,18 +37,7 @@ impl Refusal {
             Refusal::Divisions => 20,
             Refusal::Layers => 21,
             Refusal::Size => 22,
+            Refusal::NotFinite => 23,
         }
     }
-}
-
-// Accepted, as the body by its numbers, or refused.
-pub enum Verdict {
-    Accepted(Topology),
-    Refused(Refusal),
-}
-
-// What `counts` answers.
-pub enum Counted {
-    Counts { vertices: u32, triangles: u32 },
-    Refused(Refusal),
 }
