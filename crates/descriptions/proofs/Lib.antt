@@ -1,3 +1,4 @@
+pub mod KindLimits
 pub mod Shapes
 pub mod Checked
 pub mod KindNumbers

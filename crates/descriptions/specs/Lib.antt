@@ -1,4 +1,5 @@
 pub mod Answers
 pub mod Descriptions
 pub mod Refusals
+pub mod KindLimits
 pub mod KindNumbers

@@ -2,12 +2,12 @@ ghost use mathlib.Core.Path.{_≡_};
 ghost use mathlib.Core.Bool.{true};
 ghost use Prim.Native.Nat.{_*_, _/_, _≤_};
 ghost use lib.ListN.{length};
-ghost use Rattle.curve.specs.Checks.{foldsPermitted};
+ghost use Rattle.curve.specs.Checks.{CornersWithin, foldsPermitted};
 ghost use Rattle.descriptions.specs.Answers.{verdictAnswer};
 ghost use Rattle.descriptions.specs.Refusals.{verticesPermitted, curveFoldsPermitted, floatsOf, segmentsCheckedOf, checkedOf};
-use answers::Refusal;
-use crate::verdict::Verdict;
 use crate::description::Description;
+use crate::verdict::Verdict;
+use answers::Refusal;
 use kinds::Topology;
 use surface::Chain;
 
@@ -18,12 +18,19 @@ pub const MOST_DIRECTIONS: usize = 12288;
 const FEW_DIRECTIONS: usize = 768;
 
 // 13, by way of a table that has room for the directions.
-fn is_without_fold(chain: Chain, count: u16, curve: &[f32], directions: &mut [f32]) -> bool
+fn is_without_fold(
+    chain: Chain,
+    count: u16,
+    corners: u16,
+    curve: &[f32],
+    directions: &mut [f32],
+) -> bool
     requires { ⌜ count * 3 ≤ length (now directions) ⌝ }
-    ensures { λ r. ⌜ r ≡ foldsPermitted chain count (now (curve .entry)) ⌝ }
+    requires { ⌜ CornersWithin chain count corners ⌝ }
+    ensures { λ r. ⌜ r ≡ foldsPermitted chain count corners (now (curve .entry)) ⌝ }
 {
     curve::fill_directions(chain, count, curve, directions);
-    curve::has_no_fold(&directions[..count as usize * 3])
+    curve::has_no_fold(chain, count, corners, directions)
 }
 
 impl Description {
@@ -66,12 +73,13 @@ impl Description {
     {
         let chain = self.chain();
         let count = self.segment_count(curve.len() / 3);
+        let corners = self.corner_count(curve.len() / 3);
         if count as usize * 3 <= FEW_DIRECTIONS {
             let mut directions = [0.0f32; FEW_DIRECTIONS];
-            return is_without_fold(chain, count, curve, &mut directions);
+            return is_without_fold(chain, count, corners, curve, &mut directions);
         }
         let mut directions = [0.0f32; MOST_DIRECTIONS];
-        is_without_fold(chain, count, curve, &mut directions)
+        is_without_fold(chain, count, corners, curve, &mut directions)
     }
 
     // Refusals 10, 20, 21, 22, 11, 12 and 13, or the body by its numbers.

@@ -1,10 +1,10 @@
 ghost use mathlib.Core.Path.{_≡_};
 ghost use Rattle.descriptions.specs.Answers.{verdictAnswer, countedAnswer};
 ghost use Rattle.descriptions.specs.Refusals.{shapeOf, countsOf};
-use crate::verdict::Counted;
-use answers::Refusal;
-use crate::verdict::Verdict;
 use crate::description::Description;
+use crate::verdict::Counted;
+use crate::verdict::Verdict;
+use answers::Refusal;
 
 impl Description {
     // Refusals 10, 20 and 21, or the body by its numbers.

@@ -1,6 +1,6 @@
 ghost use mathlib.Core.Path.{_≡_};
 ghost use mathlib.Core.Bool.{true};
-ghost use Rattle.descriptions.specs.Descriptions.{curveChain, segmentCount, topologyOf};
+ghost use Rattle.descriptions.specs.Descriptions.{curveChain, segmentCount, cornersOf, topologyOf};
 ghost use Rattle.descriptions.specs.Refusals.{verticesPermitted, ShapePermitted};
 use kinds::Capsule;
 use kinds::ClosedCylinder;
@@ -51,8 +51,8 @@ impl Description {
         }
     }
 
-    // How many segments a permitted curve of so many vertices has.
-    pub(crate) fn segment_count(self, vertices: usize) -> u16
+    // How many segments a curve of a permitted number of vertices has.
+    pub fn segment_count(self, vertices: usize) -> u16
         requires { ⌜ verticesPermitted self vertices ≡ true ⌝ }
         ensures { λ r. ⌜ r ≡ segmentCount self vertices ⌝ }
     {
@@ -63,6 +63,19 @@ impl Description {
             Chain::Open => (vertices - 1) as u16,
             Chain::Closed => vertices as u16,
         }
+    }
+
+    // At how many corners such a curve is checked for folds (13): at the end of every segment but
+    // the last.
+    pub fn corner_count(self, vertices: usize) -> u16
+        requires { ⌜ verticesPermitted self vertices ≡ true ⌝ }
+        ensures { λ r. ⌜ r ≡ cornersOf self vertices ⌝ }
+    {
+        let segments = self.segment_count(vertices);
+        if segments == 0 {
+            return 0;
+        }
+        segments - 1
     }
 
     // The body by its numbers.
