@@ -19,6 +19,7 @@ use Rattle.kinds.specs.declared.topology.Topology.the-variants as topology
 use Rattle.kinds.proofs.Bounds.{Bounds, bounds, between-true}
 use Rattle.answers.specs.Answers.{AllPermitted, accepted}
 use Rattle.descriptions.specs.Descriptions.{curveChain, segmentsOf, segmentCount, topologyOf}
+use Rattle.descriptions.specs.KindNumbers.{divisionsOf}
 use Rattle.descriptions.specs.Refusals.{
   verticesPermitted,
   curvePermitted,
@@ -40,6 +41,13 @@ vertices-most (Tube n r) N h = between-true 2 4096 N h .1
 vertices-most (Capsule n L r) N h = between-true 2 4096 N h .1
 vertices-most (Torus n r) N h = between-true 3 4096 N h .1
 vertices-most (ClosedCylinder n S centred r l) N h = omega (arith, eqb-true N 0 h)
+
+pub divisions-most : (d : Description) → roundPermitted d ≡ true → divisionsOf d ≤ 256
+divisions-most (Ribbon w) h = omega arith
+divisions-most (Tube n r) h = between-true 3 256 n h .1
+divisions-most (Capsule n L r) h = between-true 3 256 n h .1
+divisions-most (Torus n r) h = between-true 3 256 n h .1
+divisions-most (ClosedCylinder n S centred r l) h = between-true 3 256 n h .1
 
 no-more : (k : Chain) (N : ℕ) → segmentsOf k N ≤ N
 no-more chain.Open N = omega arith
