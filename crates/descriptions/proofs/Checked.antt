@@ -1,5 +1,5 @@
--- What a curve is checked for, segment by segment: 12 and 13 over what was answered, and `check` out of `check_segments` and 13. Assumes
--- nothing.
+-- The corners at which a fold (13) is looked for, and the answer where 13 is the last test.
+-- Assumes nothing.
 use mathlib.Core.Path.{_≡_, ap, _∙_}
 use mathlib.Core.Bool.{Bool, cond}
 use mathlib.Core.List.{List, [], _∷_, _++_}
@@ -17,23 +17,21 @@ use Rattle.descriptions.specs.Refusals.{curveFoldsPermitted, segmentTest
 use Rattle.descriptions.specs.declared.description.Description.{Description}
 use Rattle.answers.proofs.FirstOf.{accepted-by, passed-by}
 
--- a test over the chain and the number of segments that were answered, as the test over what they are
-pub along : (f : Chain → ℕ → List Float → Bool) (l : List Float) {k k' : Chain} {m m' : ℕ} → k ≡ k' → m ≡ m' → f k m l ≡ f k' m' l
-along f l p q = λ j. f (p j) (q j) l
-
--- the corners that 13 covers lie between segments of the curve, as it was answered
-pub corners-within : (d : Description) (N : ℕ) {k : Chain} {m corners : ℕ} → k ≡ curveChain d → m ≡ segmentCount d N → corners ≡ cornersOf d N
-    → CornersWithin k m corners
+-- each lies between two segments of the curve, whose chain and numbers were answered
+pub corners-within : (d : Description) (N : ℕ) {k : Chain} {m corners : ℕ}
+    → k ≡ curveChain d → m ≡ segmentCount d N → corners ≡ cornersOf d N → CornersWithin k m corners
 corners-within d N {k} {m} {corners} p q r = inner-corners k m corners (omega arith)
 
 -- a test that comes after others which were passed has the last word
 pub last-test : {A : Type 0} (ts : List Test) (k : ℕ) {p r : Bool} (a : A) → AllPermitted ts → r ≡ p
     → cond r (accepted a) (refused k) ≡ firstOf (ts ++ (test k p ∷ [])) a
-last-test ts k {p} a passed is = ap (λ (b : Bool). cond b (accepted a) (refused k)) is ∙ passed-by ts (test k p ∷ []) a passed
+last-test ts k {p} a passed is =
+    ap (λ (b : Bool). cond b (accepted a) (refused k)) is ∙ passed-by ts (test k p ∷ []) a passed
 
 -- a body that passed the tests before 13 is accepted or refused by 13
-pub fold-answer : (d : Description) (c : List Float) {body : Topology} {r : Bool} → accepted body ≡ segmentsCheckedOf d c
-    → r ≡ curveFoldsPermitted d c → cond r (accepted body) (refused 13) ≡ checkedOf d c
+pub fold-answer : (d : Description) (c : List Float) {body : Topology} {r : Bool}
+    → accepted body ≡ segmentsCheckedOf d c → r ≡ curveFoldsPermitted d c
+    → cond r (accepted body) (refused 13) ≡ checkedOf d c
 fold-answer d c {r = r} passed folds =
     let told = accepted-by (segmentTests d c) (topologyOf d (length c / 3)) passed in
     ap (λ (t : Topology). cond r (accepted t) (refused 13)) (told .0)

@@ -9,7 +9,8 @@ use Rattle.descriptions.specs.KindNumbers.{divisionsOf}
 use Rattle.descriptions.specs.KindLimits.{leastVertices, mostVertices, leastDivisions, mostDivisions}
 use Rattle.descriptions.specs.Refusals.{verticesPermitted, roundPermitted}
 use Rattle.descriptions.specs.declared.description.Description.{Description}
-use Rattle.descriptions.specs.declared.description.Description.the-variants.{Ribbon, Tube, Capsule, Torus, ClosedCylinder}
+use Rattle.descriptions.specs.declared.description.Description.the-variants.{Ribbon, Tube, Capsule}
+use Rattle.descriptions.specs.declared.description.Description.the-variants.{Torus, ClosedCylinder}
 
 none : (N : ℕ) → between 0 0 N ≡ eqb N 0
 none zero = refl

@@ -6,7 +6,8 @@ use Rattle.surface.specs.declared.grid.Chain.the-variants as chain
 use Rattle.kinds.specs.declared.topology.Topology.{Topology}
 use Rattle.kinds.specs.declared.topology.Topology.the-variants as topology
 use Rattle.descriptions.specs.declared.description.Description.{Description}
-use Rattle.descriptions.specs.declared.description.Description.the-variants.{Ribbon, Tube, Capsule, Torus, ClosedCylinder}
+use Rattle.descriptions.specs.declared.description.Description.the-variants.{Ribbon, Tube, Capsule}
+use Rattle.descriptions.specs.declared.description.Description.the-variants.{Torus, ClosedCylinder}
 
 -- A torus's curve is closed, the others' are open ('Frames and vertices'). That of a closed
 -- cylinder has no vertex.

@@ -2,7 +2,8 @@
 -- 01, 'Refused, and through whom'). Definitions only.
 use Prim.Native.Nat.{ℕ}
 use Rattle.descriptions.specs.declared.description.Description.{Description}
-use Rattle.descriptions.specs.declared.description.Description.the-variants.{Ribbon, Tube, Capsule, Torus, ClosedCylinder}
+use Rattle.descriptions.specs.declared.description.Description.the-variants.{Ribbon, Tube, Capsule}
+use Rattle.descriptions.specs.declared.description.Description.the-variants.{Torus, ClosedCylinder}
 
 -- "vertices outside 2 to 4,096 (torus 3 to 4,096, closed cylinder 0)"
 abbrev pub leastVertices : Description → ℕ

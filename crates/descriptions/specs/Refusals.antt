@@ -17,7 +17,8 @@ use Rattle.answers.specs.Answers.{Answer, Test, test, AllPermitted, firstOf}
 use Rattle.descriptions.specs.Answers.{Counts}
 use Rattle.descriptions.specs.Descriptions.{curveChain, segmentCount, cornersOf, topologyOf}
 use Rattle.descriptions.specs.declared.description.Description.{Description}
-use Rattle.descriptions.specs.declared.description.Description.the-variants.{Ribbon, Tube, Capsule, Torus, ClosedCylinder}
+use Rattle.descriptions.specs.declared.description.Description.the-variants.{Ribbon, Tube, Capsule}
+use Rattle.descriptions.specs.declared.description.Description.the-variants.{Torus, ClosedCylinder}
 
 -- 10 of an open curve: "vertices outside 2 to 4,096"
 abbrev pub openVerticesPermitted : ℕ → Bool
@@ -108,7 +109,8 @@ floatsOf d body c = firstOf (floatTests d c) body
 -- that order without its end: all that is tried before a segment's direction is worked out
 abbrev pub segmentTests : Description → List Float → List Test
 segmentTests d c =
-    test 10 (curvePermitted d c) ∷ test 20 (roundPermitted d) ∷ test 21 (lengthwisePermitted d (length c / 3)) ∷ floatTests d c
+    let N = length c / 3 in
+    test 10 (curvePermitted d c) ∷ test 20 (roundPermitted d) ∷ test 21 (lengthwisePermitted d N) ∷ floatTests d c
 
 abbrev pub segmentsCheckedOf : Description → List Float → Answer Topology
 segmentsCheckedOf d c = firstOf (segmentTests d c) (topologyOf d (length c / 3))

@@ -34,7 +34,8 @@ fn is_without_fold(
 }
 
 impl Description {
-    // Refusals 22, 11 and 12, or the body, where 10, 20 and 21 do not refuse it.
+    // Checks the sizes (22), that the curve is finite (11) and its segments (12), and answers the
+    // first refusal or `body`. The number of the curve's vertices is permitted (10).
     fn check_floats(self, body: Topology, curve: &[f32]) -> Verdict
         requires { ⌜ verticesPermitted self (length (now curve) / 3) ≡ true ⌝ }
         ensures { λ r. ⌜ verdictAnswer r ≡ floatsOf self body (now (curve .entry)) ⌝ }
@@ -53,7 +54,10 @@ impl Description {
         Verdict::Accepted(body)
     }
 
-    // Refusals 10, 20, 21, 22, 11 and 12, or the body by its numbers: all that comes before a direction is worked out.
+    // Checks the curve's vertices (10), the divisions (20), the longitudes or layers (21), the
+    // sizes (22), that the curve is finite (11) and its segments (12), in this order, and answers
+    // the first refusal or the body by its numbers. Only the check for folds (13), which needs the
+    // directions of the segments, is left after it.
     pub fn check_segments(self, curve: &[f32]) -> Verdict
         ensures { λ r. ⌜ verdictAnswer r ≡ segmentsCheckedOf self (now (curve .entry)) ⌝ }
     {

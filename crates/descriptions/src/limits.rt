@@ -1,7 +1,8 @@
 ghost use mathlib.Core.Path.{_≡_};
 ghost use mathlib.Core.Bool.{true};
 ghost use Rattle.descriptions.specs.KindLimits.{leastVertices, mostVertices, leastDivisions, mostDivisions};
-ghost use Rattle.descriptions.specs.Refusals.{verticesPermitted, roundPermitted, lengthwisePermitted, sizePermitted, sizesPermitted};
+ghost use Rattle.descriptions.specs.Refusals.{verticesPermitted, roundPermitted, lengthwisePermitted};
+ghost use Rattle.descriptions.specs.Refusals.{sizePermitted, sizesPermitted};
 use crate::description::Description;
 use kinds::Capsule;
 use kinds::ClosedCylinder;

@@ -24,9 +24,12 @@ returns : tie.Need-returns
 returns c =
     let n = c .before in
     let most = n .before in
-    let self = most .before .before .args .self in
+    let least = most .before in
     c .is-between .ensures
-    ∙ divisions-told self (most .before .least-divisions .ensures) (most .most-divisions .ensures) (n .divisions .ensures)
+    ∙ divisions-told (least .before .args .self)
+    (least .least-divisions .ensures)
+    (most .most-divisions .ensures)
+    (n .divisions .ensures)
 
 pub is-round-permitted-spec : {M : Type 1} → statement M
 is-round-permitted-spec =

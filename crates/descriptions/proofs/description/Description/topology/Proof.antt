@@ -28,7 +28,8 @@ enum-known-self c = search needs
 cast-t11 : tie.Need-cast-t11
 cast-t11 c =
     let start = c .before .before .before .before .before in
-    let numbers = rw (c .before .self .given .1) at (shape-bounds (start .args .self) (start .args .vertices) (start .pre)) in
+    let bounds = shape-bounds (start .args .self) (start .args .vertices) (start .pre) in
+    let numbers = rw (c .before .self .given .1) at bounds in
     omega arith
 
 enum-told-3 : tie.Need-enum-told-3
@@ -40,7 +41,8 @@ enum-known-self-2 c = search needs
 cast-t14 : tie.Need-cast-t14
 cast-t14 c =
     let start = c .before .before .before .before .before in
-    let numbers = rw (c .before .self2 .given .1) at (shape-bounds (start .args .self) (start .args .vertices) (start .pre)) in
+    let bounds = shape-bounds (start .args .self) (start .args .vertices) (start .pre) in
+    let numbers = rw (c .before .self2 .given .1) at bounds in
     omega arith
 
 returns : tie.Need-returns
