@@ -7,7 +7,6 @@ mod kind;
 mod limits;
 mod verdict;
 
-pub use checks::MOST_DIRECTIONS;
 pub use description::Description;
 pub use kind::Described;
 pub use kind::LAST_KIND;
