@@ -1,4 +1,3 @@
-pub mod KindLimits
 pub mod Shapes
 pub mod Checked
 pub mod KindNumbers

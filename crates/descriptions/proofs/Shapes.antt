@@ -11,7 +11,7 @@ use borrow.Author.Tests.{le-leb, eqb-true}
 use Rattle.laws.specs.Conjunction.{both-true}
 use Rattle.surface.specs.declared.grid.Chain.{Chain}
 use Rattle.surface.specs.declared.grid.Chain.the-variants as chain
-use Rattle.kinds.specs.Limits.{between, segmentCountPermitted}
+use Rattle.kinds.specs.Limits.{segmentCountPermitted}
 use Rattle.kinds.specs.Kinds.{permitted, vertexCount, triangleCount, layersOf}
 use Rattle.kinds.specs.declared.topology.Topology.{Topology}
 use Rattle.kinds.specs.declared.topology.Topology.the-variants as topology
@@ -20,9 +20,16 @@ use Rattle.answers.specs.Answers.{AllPermitted, accepted}
 use Rattle.descriptions.specs.Descriptions.{curveChain, segmentsOf, segmentCount, topologyOf}
 use Rattle.descriptions.specs.KindNumbers.{divisionsOf}
 use Rattle.descriptions.specs.Refusals.{
+  leastOpen,
+  mostOpen,
+  openVerticesPermitted,
+  leastVertices,
+  mostVertices,
   verticesPermitted,
   wholeVertices,
   curvePermitted,
+  leastDivisions,
+  mostDivisions,
   roundPermitted,
   lengthwisePermitted,
   shapeTests,
@@ -38,18 +45,23 @@ use Rattle.answers.proofs.FirstOf.{accepted-by}
 
 -- no curve has more than 4,096 vertices, no body more than 256 divisions
 pub vertices-most : (d : Description) (N : ℕ) → verticesPermitted d N ≡ true → N ≤ 4096
-vertices-most (Ribbon w) N h = between-true 2 4096 N h .1
-vertices-most (Tube n r) N h = between-true 2 4096 N h .1
-vertices-most (Capsule n L r) N h = between-true 2 4096 N h .1
-vertices-most (Torus n r) N h = between-true 3 4096 N h .1
-vertices-most (ClosedCylinder n S centred r l) N h = omega (arith, eqb-true N 0 h)
+vertices-most d N h = omega (arith, between-true (leastVertices d) (mostVertices d) N h .1, most d) where
+  most : (d : Description) → mostVertices d ≤ 4096
+  most (Ribbon w) = omega arith
+  most (Tube n r) = omega arith
+  most (Capsule n L r) = omega arith
+  most (Torus n r) = omega arith
+  most (ClosedCylinder n S centred r l) = omega arith
 
 pub divisions-most : (d : Description) → roundPermitted d ≡ true → divisionsOf d ≤ 256
-divisions-most (Ribbon w) h = omega arith
-divisions-most (Tube n r) h = between-true 3 256 n h .1
-divisions-most (Capsule n L r) h = between-true 3 256 n h .1
-divisions-most (Torus n r) h = between-true 3 256 n h .1
-divisions-most (ClosedCylinder n S centred r l) h = between-true 3 256 n h .1
+divisions-most d h =
+    omega (arith, between-true (leastDivisions d) (mostDivisions d) (divisionsOf d) h .1, most d) where
+      most : (d : Description) → mostDivisions d ≤ 256
+      most (Ribbon w) = omega arith
+      most (Tube n r) = omega arith
+      most (Capsule n L r) = omega arith
+      most (Torus n r) = omega arith
+      most (ClosedCylinder n S centred r l) = omega arith
 
 no-more : (k : Chain) (N : ℕ) → segmentsOf k N ≤ N
 no-more chain.Open N = omega arith
@@ -60,9 +72,9 @@ pub segments-most : (d : Description) (N : ℕ) → verticesPermitted d N ≡ tr
 segments-most d N h = omega (arith, vertices-most d N h, no-more (curveChain d) N)
 
 -- 2 to 4,096 vertices have 1 to 4,095 segments between them
-open-segments : (N : ℕ) → between 2 4096 N ≡ true → segmentCountPermitted (N - 1) ≡ true
+open-segments : (N : ℕ) → openVerticesPermitted N ≡ true → segmentCountPermitted (N - 1) ≡ true
 open-segments N h =
-    let b = between-true 2 4096 N h in
+    let b = between-true leastOpen mostOpen N h in
     let least : 1 ≤ N - 1 = omega arith in
     let most : N - 1 ≤ 4095 = omega arith in
     (λ j. le-leb 1 (N - 1) least j && le-leb (N - 1) 4095 most j)

@@ -1,5 +1,4 @@
 pub mod Answers
 pub mod Descriptions
 pub mod Refusals
-pub mod KindLimits
 pub mod KindNumbers

@@ -9,28 +9,45 @@ use lib.Ieee.{Float, binary32, ofBits, lt}
 use lib.Ieee.Scale.{finite}
 use lib.ListN.{length}
 use Rattle.float32.specs.Scan.{allFinite}
-use Rattle.kinds.specs.Limits.{between, loopPermitted, divisionsPermitted, longitudesPermitted, layersPermitted}
+use Rattle.kinds.specs.Limits.{between, longitudesPermitted, layersPermitted}
 use Rattle.kinds.specs.Kinds.{vertexCount, triangleCount}
 use Rattle.kinds.specs.declared.topology.Topology.{Topology}
 use Rattle.curve.specs.Checks.{segmentsPermitted, foldsPermitted}
 use Rattle.answers.specs.Answers.{Answer, Test, test, AllPermitted, firstOf}
 use Rattle.descriptions.specs.Answers.{Counts}
+use Rattle.descriptions.specs.KindNumbers.{divisionsOf}
 use Rattle.descriptions.specs.Descriptions.{curveChain, segmentCount, cornersOf, topologyOf}
 use Rattle.descriptions.specs.declared.description.Description.{Description}
 use Rattle.descriptions.specs.declared.description.Description.the-variants.{Ribbon, Tube, Capsule}
 use Rattle.descriptions.specs.declared.description.Description.the-variants.{Torus, ClosedCylinder}
 
 -- 10 of an open curve: "vertices outside 2 to 4,096"
+abbrev pub leastOpen : ℕ
+leastOpen = 2
+
+abbrev pub mostOpen : ℕ
+mostOpen = 4096
+
 abbrev pub openVerticesPermitted : ℕ → Bool
-openVerticesPermitted N = between 2 4096 N
+openVerticesPermitted N = between leastOpen mostOpen N
 
 -- 10 by the kind: "vertices outside 2 to 4,096 (torus 3 to 4,096, closed cylinder 0)"
+abbrev pub leastVertices : Description → ℕ
+leastVertices (Ribbon w) = leastOpen
+leastVertices (Tube n r) = leastOpen
+leastVertices (Capsule n L r) = leastOpen
+leastVertices (Torus n r) = 3
+leastVertices (ClosedCylinder n S centred r l) = 0
+
+abbrev pub mostVertices : Description → ℕ
+mostVertices (Ribbon w) = mostOpen
+mostVertices (Tube n r) = mostOpen
+mostVertices (Capsule n L r) = mostOpen
+mostVertices (Torus n r) = 4096
+mostVertices (ClosedCylinder n S centred r l) = 0
+
 abbrev pub verticesPermitted : Description → ℕ → Bool
-verticesPermitted (Ribbon w) N = openVerticesPermitted N
-verticesPermitted (Tube n r) N = openVerticesPermitted N
-verticesPermitted (Capsule n L r) N = openVerticesPermitted N
-verticesPermitted (Torus n r) N = loopPermitted N
-verticesPermitted (ClosedCylinder n S centred r l) N = eqb N 0
+verticesPermitted d N = between (leastVertices d) (mostVertices d) N
 
 -- 10 of a curve: no "length not a multiple of 3"
 abbrev pub wholeVertices : List Float → Bool
@@ -52,13 +69,23 @@ curveFoldsPermitted d c =
     let N = length c / 3 in
     foldsPermitted (curveChain d) (segmentCount d N) (cornersOf d N) c
 
--- 20: "n outside 3 to 256 (not ribbon)"
+-- 20: "n outside 3 to 256 (not ribbon)", whose n is 0
+abbrev pub leastDivisions : Description → ℕ
+leastDivisions (Ribbon w) = 0
+leastDivisions (Tube n r) = 3
+leastDivisions (Capsule n L r) = 3
+leastDivisions (Torus n r) = 3
+leastDivisions (ClosedCylinder n S centred r l) = 3
+
+abbrev pub mostDivisions : Description → ℕ
+mostDivisions (Ribbon w) = 0
+mostDivisions (Tube n r) = 256
+mostDivisions (Capsule n L r) = 256
+mostDivisions (Torus n r) = 256
+mostDivisions (ClosedCylinder n S centred r l) = 256
+
 abbrev pub roundPermitted : Description → Bool
-roundPermitted (Ribbon w) = true
-roundPermitted (Tube n r) = divisionsPermitted n
-roundPermitted (Capsule n L r) = divisionsPermitted n
-roundPermitted (Torus n r) = divisionsPermitted n
-roundPermitted (ClosedCylinder n S centred r l) = divisionsPermitted n
+roundPermitted d = between (leastDivisions d) (mostDivisions d) (divisionsOf d)
 
 -- 21: "L above 256 or 2L + m below 3; layers S outside 1 to 4,096"
 abbrev pub lengthwisePermitted : Description → ℕ → Bool

@@ -1,7 +1,7 @@
 -- The number lies within the limits of the kind. Assumes nothing.
 use mathlib.Core.Path.{_∙_}
 use borrow.Author.Needs.{needs}
-use Rattle.descriptions.proofs.KindLimits.{vertices-told}
+use Rattle.kinds.specs.Limits.{between}
 use Rattle.descriptions.proofs.description.Description.are_vertices_permitted.Statement.{statement}
 use Rattle.descriptions.proofs.description.Description.are_vertices_permitted.Tie as tie
 
@@ -17,9 +17,10 @@ is-between-requires c κs = search needs
 returns : tie.Need-returns
 returns c =
     let most = c .before in
-    let a = most .before .before .args in
+    let least = most .before in
+    let vertices = least .before .args .vertices in
     c .is-between .ensures
-    ∙ vertices-told (a .self) (a .vertices) (most .before .least-vertices .ensures) (most .most-vertices .ensures)
+    ∙ (λ j. between (least .least-vertices .ensures j) (most .most-vertices .ensures j) vertices)
 
 pub are-vertices-permitted-spec : {M : Type 1} → statement M
 are-vertices-permitted-spec =

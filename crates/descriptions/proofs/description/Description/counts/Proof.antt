@@ -8,7 +8,7 @@ use Rattle.answers.proofs.FirstOf.{accepted-by, refused-by}
 use Rattle.kinds.specs.Kinds.{permitted}
 use Rattle.descriptions.specs.Answers.{Counts}
 use Rattle.descriptions.specs.Descriptions.{topologyOf}
-use Rattle.descriptions.specs.Refusals.{sizesPermitted, ShapePermitted, shapeTests, shapeOf, bodyCounts}
+use Rattle.descriptions.specs.Refusals.{sizesPermitted, ShapePermitted, shapeTests, bodyCounts}
 use Rattle.descriptions.proofs.Shapes.{counts-most, shape-permitted}
 use Rattle.descriptions.proofs.Checked.{last-test}
 use borrow.Author.Needs.{needs}

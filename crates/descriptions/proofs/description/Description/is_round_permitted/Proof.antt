@@ -1,7 +1,7 @@
 -- The divisions lie within the limits of the kind. Assumes nothing.
 use mathlib.Core.Path.{_∙_}
 use borrow.Author.Needs.{needs}
-use Rattle.descriptions.proofs.KindLimits.{divisions-told}
+use Rattle.kinds.specs.Limits.{between}
 use Rattle.descriptions.proofs.description.Description.is_round_permitted.Statement.{statement}
 use Rattle.descriptions.proofs.description.Description.is_round_permitted.Tie as tie
 
@@ -24,12 +24,8 @@ returns : tie.Need-returns
 returns c =
     let n = c .before in
     let most = n .before in
-    let least = most .before in
-    c .is-between .ensures
-    ∙ divisions-told (least .before .args .self)
-    (least .least-divisions .ensures)
-    (most .most-divisions .ensures)
-    (n .divisions .ensures)
+    let least = most .before .least-divisions .ensures in
+    c .is-between .ensures ∙ (λ j. between (least j) (most .most-divisions .ensures j) (n .divisions .ensures j))
 
 pub is-round-permitted-spec : {M : Type 1} → statement M
 is-round-permitted-spec =
