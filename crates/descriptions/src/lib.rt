@@ -1,4 +1,5 @@
-// What a caller asks for: one of five kinds with its sizes, the counts that it will have, and every refusal that needs no table.
+// The description of a body, one of five kinds with its sizes: the counts that the body will have,
+// and every refusal that needs no table, up to a segment (12).
 mod checks;
 mod counts;
 mod description;
@@ -6,7 +7,6 @@ mod kind;
 mod limits;
 mod verdict;
 
-pub use checks::MOST_DIRECTIONS;
 pub use description::Description;
 pub use kind::Described;
 pub use kind::LAST_KIND;
