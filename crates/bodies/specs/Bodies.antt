@@ -3,11 +3,12 @@
 -- (topologyOf ..)` of the crates kinds and descriptions). Definitions only.
 use mathlib.Core.Bool.{Bool, _&&_}
 use mathlib.Core.List.{List}
-use Prim.Native.Nat.{ℕ, _-_, _*_, _%_}
-use lib.Dec.{eqb, leb}
+use Prim.Native.Nat.{ℕ, _-_, _%_}
+use lib.Dec.{eqb}
 use lib.Ieee.{Float}
 use lib.ListN.{length}
 use Rattle.float32.specs.Scan.{allFinite}
+use Rattle.surface.specs.Limits.{fits}
 use Rattle.kinds.specs.Kinds.{vertexCount}
 use Rattle.curve.specs.Segments.{verticesIn}
 use Rattle.answers.specs.Answers.{isAccepted}
@@ -38,7 +39,7 @@ floatsFinite d c = allFinite (verticesOf d c)
 -- (of 3). What the floats are plays no part.
 unfoldable pub drawable : Description → List Float → ℕ → Bool
 drawable d c room =
-    eqb (length c % 3) 0 && (isAccepted (shapeOf d (verticesIn c)) && leb (3 * vertexCount (topologyOf d (verticesIn c))) room)
+    eqb (length c % 3) 0 && (isAccepted (shapeOf d (verticesIn c)) && fits (vertexCount (topologyOf d (verticesIn c))) room)
 
 -- the table of the directions of a body's curve
 abbrev pub AlongCurve : Description → List Float → List Float → Type 0

@@ -1,11 +1,10 @@
-// The vertices of one body, from its description and its curve.
-mod checked;
-mod directions;
+// The vertices of one body, from its description and its curve, and the check of both.
 mod draw;
-mod folded;
+mod folds;
 mod vertices;
+mod work;
 
-pub use checked::write_checked;
-pub use folded::is_without_fold;
-pub use folded::write_unless_folded;
+pub use folds::check;
+pub use folds::is_without_fold;
+pub use folds::write_unless_folded;
 pub use vertices::write_vertices;

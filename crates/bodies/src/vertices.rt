@@ -8,6 +8,7 @@ ghost use Rattle.descriptions.specs.Refusals.{ShapePermitted};
 ghost use Rattle.bodies.specs.Bodies.{verticesOf, drawable};
 ghost use Rattle.bodies.specs.Bodies.{AlongCurve};
 use crate::draw::draw;
+use crate::work::Work;
 use descriptions::Description;
 use descriptions::Verdict;
 use ring_writers::cylinder_closed_end_yup;
@@ -94,11 +95,10 @@ pub fn write_vertices(description: Description, curve: &[f32], out: &mut [f32]) 
     match description.shape(curve.len() / 3) {
         Verdict::Refused(_) => false,
         Verdict::Accepted(body) => {
-            if 3 * body.vertex_count() > out.len() as u64 {
+            if !surface::fits(body.vertex_count(), out.len()) {
                 return false;
             }
-            draw(description, curve, true, true, out);
-            true
+            draw(Work::Write, description, curve, out)
         }
     }
 }

@@ -52,7 +52,7 @@ fn write_body(
     vertices: &mut [f32],
     triangles: &mut [u32],
 ) -> Counts {
-    match description.check(curve) {
+    match bodies::check(description, curve) {
         Verdict::Refused(_) => Counts::none(),
         Verdict::Accepted(body) => {
             bodies::write_vertices(description, curve, vertices);

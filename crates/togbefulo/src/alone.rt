@@ -78,7 +78,7 @@ pub extern "C" fn togbefulo_check(
 {
     match of_kind(kind, divisions, steps, centred, size, length) {
         Described::Unknown => UNKNOWN_KIND,
-        Described::Known(description) => number(description.check(curve)),
+        Described::Known(description) => number(bodies::check(description, curve)),
     }
 }
 

@@ -58,7 +58,7 @@ fn load_curve(words: [u32; 16], curve: &mut [f32]) -> usize
 fn write_body(description: Description, curve: &[f32], values: &mut [f32]) -> usize
     ensures { λ r. ⌜ (r ≤ length (now (values .exit))) × (r ≡ length (take r (now (values .exit)))) ⌝ }
 {
-    match description.check(curve) {
+    match bodies::check(description, curve) {
         Verdict::Refused(_) => 0,
         Verdict::Accepted(body) => {
             if bodies::write_vertices(description, curve, values) {

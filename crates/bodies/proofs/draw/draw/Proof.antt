@@ -10,14 +10,14 @@ use borrow.Author.Needs.{needs}
 use Rattle.bodies.proofs.draw.draw.Statement.{statement}
 use Rattle.bodies.proofs.draw.draw.Tie as tie
 
-slice-aggregate-draw-along : tie.Need-slice-aggregate-draw-along
-slice-aggregate-draw-along c = search needs
+slice-aggregate-draw-with : tie.Need-slice-aggregate-draw-with
+slice-aggregate-draw-with c = search needs
 
-slice-aggregate-draw-along-2 : tie.Need-slice-aggregate-draw-along-2
-slice-aggregate-draw-along-2 c = search needs
+slice-aggregate-draw-with-2 : tie.Need-slice-aggregate-draw-with-2
+slice-aggregate-draw-with-2 c = search needs
 
-draw-along-requires : tie.Need-draw-along-requires
-draw-along-requires c κs = let s = c .before .before .before .before .before .before in
+draw-with-requires : tie.Need-draw-with-requires
+draw-with-requires c κs = let s = c .before .before .before .before .before .before in
     let few = segments-few (s .args .description) (length (now (s .args .curve)) / 3) in
     (s .pre .0, (omega (arith, few), (omega (arith, few), s .pre .1)))
 
@@ -27,14 +27,14 @@ same-length c = search needs
 returns : tie.Need-returns
 returns c = search needs
 
-slice-aggregate-draw-along-3 : tie.Need-slice-aggregate-draw-along-3
-slice-aggregate-draw-along-3 c = search needs
+slice-aggregate-draw-with-3 : tie.Need-slice-aggregate-draw-with-3
+slice-aggregate-draw-with-3 c = search needs
 
-slice-aggregate-draw-along-4 : tie.Need-slice-aggregate-draw-along-4
-slice-aggregate-draw-along-4 c = search needs
+slice-aggregate-draw-with-4 : tie.Need-slice-aggregate-draw-with-4
+slice-aggregate-draw-with-4 c = search needs
 
-draw-along-requires-2 : tie.Need-draw-along-requires-2
-draw-along-requires-2 c κs = let s = c .before .before .before .before .before .before in
+draw-with-requires-2 : tie.Need-draw-with-requires-2
+draw-with-requires-2 c κs = let s = c .before .before .before .before .before .before in
     let most = segments-most (s .args .description) (length (now (s .args .curve)) / 3) (s .pre .0 .0) in
     (s .pre .0, (omega (arith, most), (omega (arith, most), s .pre .1)))
 
@@ -48,13 +48,13 @@ pub draw-spec : {M : Type 1} → statement M
 draw-spec =
     tie.close
     (tie.spec
-    slice-aggregate-draw-along
-    slice-aggregate-draw-along-2
-    draw-along-requires
+    slice-aggregate-draw-with
+    slice-aggregate-draw-with-2
+    draw-with-requires
     same-length
     returns
-    slice-aggregate-draw-along-3
-    slice-aggregate-draw-along-4
-    draw-along-requires-2
+    slice-aggregate-draw-with-3
+    slice-aggregate-draw-with-4
+    draw-with-requires-2
     same-length-2
     returns-2)

@@ -1,21 +1,21 @@
 -- A body that the shape's tests accept and that has room is filled; any other is left alone.
 -- Assumes nothing.
-use mathlib.Core.Path.{_≡_, refl, sym, ap, _∙_, subst}
-use mathlib.Core.Bool.{Bool, true, _&&_}
-use Prim.Native.Nat.{ℕ, _*_, _/_, _≤_, _<_}
-use native.Mathlib.Omega.{arith}
+use mathlib.Core.Path.{_≡_, refl, sym, ap, _∙_}
+use mathlib.Core.Bool.{Bool, and-true}
+use Prim.Native.Nat.{ℕ, _/_}
 use borrow.Author.Needs.{needs}
+use borrow.Author.Tests.{not-true, not-false}
 use denote.Ref.{now}
 use lib.ListN.{length}
-use Rattle.laws.specs.Overwrite.{overwrite, placed}
+use Rattle.laws.specs.Overwrite.{placed}
+use Rattle.surface.specs.Limits.{fits}
 use Rattle.kinds.specs.Kinds.{vertexCount}
 use Rattle.answers.specs.Answers.{accepted}
+use Rattle.answers.proofs.FirstOf.{accepted-by}
 use Rattle.descriptions.specs.Descriptions.{topologyOf}
 use Rattle.descriptions.specs.Refusals.{ShapePermitted, shapeTests, shapeOf}
-use Rattle.answers.proofs.FirstOf.{accepted-by}
-use Rattle.descriptions.proofs.Shapes.{counts-most, accepted-permitted}
-use Rattle.bodies.specs.Bodies.{verticesOf}
-use Rattle.bodies.proofs.Drawable.{same-count, drawn, not-whole, not-shaped, no-room}
+use Rattle.bodies.specs.Bodies.{verticesOf, drawable}
+use Rattle.bodies.proofs.Drawable.{room-decides, not-whole, not-shaped, drawn-room}
 use Rattle.bodies.proofs.vertices.write_vertices.Statement.{statement}
 use Rattle.bodies.proofs.vertices.write_vertices.Tie as tie
 
@@ -26,15 +26,22 @@ start b = b .before .before .before .before .before .before
 abbrev N : tie.Start → ℕ
 N s = length (now (s .args .curve)) / 3
 
--- the shape's answer, and the count that the code compares
+-- the shape's answer, and the room's
 answer : (b : tie.After-body) → accepted (b .body .given .0 .0) ≡ shapeOf (start b .args .description) (N (start b))
 answer b = rw (b .body .given .1) at (b .before .before .shape .ensures)
 
-abbrev counted : tie.After-vertex-count → ℕ
-counted v = 3 * v .vertex-count .result
+abbrev bodied : tie.After-fits2 → tie.After-body
+bodied f = f .before .before .before
 
-count : (v : tie.After-vertex-count) (P : ℕ → Type 0) → P (counted v) → P (3 * vertexCount (v .before .before .body .given .0 .0))
-count v P h = subst (λ (k : ℕ). P (3 * k)) (v .vertex-count .ensures) h
+enough : (f : tie.After-fits2) → f .fits2 .result ≡ fits (vertexCount (bodied f .body .given .0 .0)) (length (now (start (bodied f) .args .out)))
+enough f = f .fits2 .ensures ∙ ap (λ (k : ℕ). fits k (length (now (start (bodied f) .args .out)))) (f .before .vertex-count .ensures)
+
+decided : (f : tie.After-fits2) {r : Bool} → f .fits2 .result ≡ r → let a = start (bodied f) .args in
+    r ≡ drawable (a .description) (now (a .curve)) (length (now (a .out)))
+decided f is =
+    let b = bodied f in
+    let a = start b .args in
+    room-decides (a .description) (now (a .curve)) (length (now (a .out))) (b .before .before .before .if1 .left) (answer b) (sym is ∙ enough f)
 
 returns : tie.Need-returns
 returns c = let a = c .before .before .before .args in
@@ -52,16 +59,11 @@ enum-known-body c = search needs
 vertex-count-requires : tie.Need-vertex-count-requires
 vertex-count-requires c κs = search needs
 
-mul-if2 : tie.Need-mul-if2
-mul-if2 c = let b = c .before .before in
-    let s = start b in
-    omega (arith, c .vertex-count .ensures, counts-most (b .body .given .0 .0) (accepted-permitted (s .args .description) (N s) (answer b)) .0)
+fits-requires : tie.Need-fits-requires
+fits-requires c κs = search needs
 
 returns-2 : tie.Need-returns-2
-returns-2 c = let b = c .before .before .before in
-    let a = start b .args in
-    let short = count (c .before) (λ k. length (now (a .out)) < k) (c .if2 .taken) in
-    (sym (no-room (a .description) (now (a .curve)) (length (now (a .out))) (b .before .before .before .if1 .left) (answer b) short), refl)
+returns-2 c = (decided (c .before) (not-true (c .before .fits2 .result) (c .if2 .taken)), refl)
 
 -- the shape is permitted
 shaped : (b : tie.After-body) → ShapePermitted (start b .args .description) (N (start b))
@@ -69,11 +71,10 @@ shaped b = let s = start b in accepted-by (shapeTests (s .args .description) (N 
 
 draw-requires : tie.Need-draw-requires
 draw-requires c κs = let e = c .before in
-    let b = e .before .before .before in
+    let b = bodied (e .before) in
     let a = start b .args in
-    let fits = count (e .before) (λ k. k ≤ length (now (a .out))) (e .if2 .left) in
-    let room = subst (λ (k : ℕ). k ≤ length (now (a .out))) (same-count (a .description) (now (a .curve)) (length (now (a .out))) (answer b)) fits in
-    (shaped b, λ _. room)
+    let drawn = sym (decided (e .before) (not-false (e .before .fits2 .result) (e .if2 .left))) in
+    (shaped b, λ _. drawn-room (a .description) (now (a .curve)) (length (now (a .out))) drawn)
 
 returns-3 : tie.Need-returns-3
 returns-3 c = let a = c .before .before .before .before .before .before .args in
@@ -83,19 +84,13 @@ returns-3 c = let a = c .before .before .before .before .before .before .args in
 same-length : tie.Need-same-length
 same-length c = search needs
 
--- what a draw that asks for no 13 leaves
-drew : (d : tie.After-draw) → let a = start (d .before .before .before .before .before) .args in
-    d .draw .last .1 .1 .1 .1 .0 ≡ overwrite 0 (verticesOf (a .description) (now (a .curve))) (now (a .out))
-drew d = let a = start (d .before .before .before .before .before) .args in
-    d .draw .ensures .1 ∙ ap (λ (b : Bool). placed (b && true) (verticesOf (a .description) (now (a .curve))) (now (a .out))) (d .draw .ensures .0)
-
+-- a draw that asks for no 13 writes
 returns-4 : tie.Need-returns-4
-returns-4 c = let e = c .before .before .before .before in
-    let b = e .before .before .before in
-    let a = start b .args in
-    let fits = count (e .before) (λ k. k ≤ length (now (a .out))) (e .if2 .left) in (
-      sym (drawn (a .description) (now (a .curve)) (length (now (a .out))) (b .before .before .before .if1 .left) (answer b) fits),
-      drew (c .before .before),
+returns-4 c = let d = c .before .before in
+    let e = d .before .before in
+    let a = start (bodied (e .before)) .args in (
+      d .draw .ensures .0 ∙ decided (e .before) (not-false (e .before .fits2 .result) (e .if2 .left)),
+      d .draw .ensures .1 ∙ ap (λ (b : Bool). placed b (verticesOf (a .description) (now (a .curve))) (now (a .out))) (and-true (d .draw .result)),
     )
 
 pub write-vertices-spec : {M : Type 1} → statement M
@@ -107,7 +102,7 @@ write-vertices-spec =
     enum-told
     enum-known-body
     vertex-count-requires
-    mul-if2
+    fits-requires
     returns-2
     draw-requires
     returns-3

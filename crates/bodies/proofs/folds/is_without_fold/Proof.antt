@@ -1,21 +1,16 @@
+-- Nothing is written, so no room is asked for. Assumes nothing.
 use mathlib.Core.Path.{sym}
 use mathlib.Core.Bool.{true≢false}
 use borrow.Author.Needs.{needs}
-use Rattle.bodies.proofs.folded.is_without_fold.Statement.{statement}
-use Rattle.bodies.proofs.folded.is_without_fold.Tie as tie
-use Rattle.bodies.proofs.folded.is_without_fold.Reads as reads
-use Rattle.bodies.proofs.folded.is_without_fold.Lts as lts
-use Rattle.bodies.proofs.draw.draw.Reads as draw-reads
+use Rattle.bodies.proofs.folds.is_without_fold.Statement.{statement}
+use Rattle.bodies.proofs.folds.is_without_fold.Tie as tie
 
--- src/folded.rt:17:44
 slice-aggregate-draw : tie.Need-slice-aggregate-draw
 slice-aggregate-draw c = search needs
 
--- src/folded.rt:17:5
 draw-requires : tie.Need-draw-requires
 draw-requires c κs = (c .before .before .pre, λ h. absurd (true≢false (sym h)))
 
--- src/folded.rt:12:1
 returns : tie.Need-returns
 returns c = search needs
 
