@@ -10,7 +10,8 @@ use Rattle.laws.specs.Products.{row-within}
 use Rattle.laws.specs.Conjunction.{both-true}
 use Rattle.surface.specs.Grid.{pointsOf}
 use Rattle.surface.specs.Limits.{fits}
-use Rattle.surface.specs.Whole.{chainOf, isCapped, ringCount, ringSize, gridSize, surfaceVertexCount, surfaceTriangleCount, placeable, GridFits}
+use Rattle.surface.specs.Whole.{chainOf, isCapped, ringCount, ringSize, gridSize, GridFits}
+use Rattle.surface.specs.Whole.{surfaceVertexCount, surfaceTriangleCount, placeable}
 use Rattle.surface.specs.declared.whole.Ending.{Ending}
 use Rattle.surface.specs.declared.whole.Ending.the-variants.{Open, Closed, Capped}
 use Rattle.surface.specs.declared.whole.Surface.{Surface}
@@ -28,12 +29,16 @@ unfolding placeable fits
 placeable-true s first room h =
     let total = leb (surfaceTriangleCount s) (2 ^ 28) in
     let held = leb (3 * surfaceTriangleCount s) room in
-    let p = both-true (leb (first + surfaceVertexCount s) (2 ^ 28)) (total && held) h in
-    (leb-true (first + surfaceVertexCount s) (2 ^ 28) (p .0), leb-true (3 * surfaceTriangleCount s) room (both-true total held (p .1) .1))
+    let p = both-true (leb (first + surfaceVertexCount s) (2 ^ 28)) (total && held) h in (
+      leb-true (first + surfaceVertexCount s) (2 ^ 28) (p .0),
+      leb-true (3 * surfaceTriangleCount s) room (both-true total held (p .1) .1),
+    )
 
-module _ (s : Surface) (first room : ℕ) (numbered : first + surfaceVertexCount s ≤ 2 ^ 28) (held : 3 * surfaceTriangleCount s ≤ room) where
+module _ (s : Surface) (first room : ℕ) (numbered : first + surfaceVertexCount s ≤ 2 ^ 28)
+    (held : 3 * surfaceTriangleCount s ≤ room) where
   bounds : (b : Bool) → isCapped (s .ending) ≡ b
-      → (first + (gridSize s + cond b 2 0) ≤ 2 ^ 28) × (3 * (2 * (s .rows * s .columns) + cond b (2 * s .columns) 0) ≤ room)
+      → (first + (gridSize s + cond b 2 0) ≤ 2 ^ 28)
+      × (3 * (2 * (s .rows * s .columns) + cond b (2 * s .columns) 0) ≤ room)
   unfolding surfaceVertexCount surfaceTriangleCount
   bounds b is = rw (← is) (numbered, held)
 

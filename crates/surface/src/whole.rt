@@ -107,7 +107,8 @@ impl Surface {
         requires { ⌜ isCapped (self .ending) ≡ true ⌝ }
         requires { ⌜ first + surfaceVertexCount self ≤ mostInAll ⌝ }
         requires { ⌜ 3 * surfaceTriangleCount self ≤ length (now out) ⌝ }
-        ensures { λ _. ⌜ now (out .exit) ≡ overwrite 0 (flatten (surfaceTriangles self first)) (now (out .entry)) ⌝ }
+        ensures { λ _. ⌜ now (out .exit)
+            ≡ overwrite 0 (flatten (surfaceTriangles self first)) (now (out .entry)) ⌝ }
     {
         let rows = self.rows as u32;
         let columns = self.columns as u32;
@@ -126,7 +127,8 @@ impl Surface {
     pub fn put_triangles(self, first: u32, out: &mut [u32])
         requires { ⌜ first + surfaceVertexCount self ≤ mostInAll ⌝ }
         requires { ⌜ 3 * surfaceTriangleCount self ≤ length (now out) ⌝ }
-        ensures { λ _. ⌜ now (out .exit) ≡ overwrite 0 (flatten (surfaceTriangles self first)) (now (out .entry)) ⌝ }
+        ensures { λ _. ⌜ now (out .exit)
+            ≡ overwrite 0 (flatten (surfaceTriangles self first)) (now (out .entry)) ⌝ }
     {
         let ending = self.ending;
         if ending.is_capped() {
@@ -140,7 +142,8 @@ impl Surface {
     // nothing, where a vertex would be numbered `MOST_IN_ALL` or above, or `out` is too short.
     pub fn write_triangles(self, first: u32, out: &mut [u32]) -> bool
         ensures { λ r. ⌜ r ≡ placeable self first (length (now (out .entry))) ⌝ }
-        ensures { λ r. ⌜ now (out .exit) ≡ placed r (flatten (surfaceTriangles self first)) (now (out .entry)) ⌝ }
+        ensures { λ r. ⌜ now (out .exit)
+            ≡ placed r (flatten (surfaceTriangles self first)) (now (out .entry)) ⌝ }
     {
         if self.is_placeable(first, out.len()) {
             self.put_triangles(first, out);

@@ -16,7 +16,8 @@ within k = divisionsPermitted (k .divisions) && segmentCountPermitted (k .segmen
 
 regroup : (k : Capsules.Capsule) → within k && longitudesPermitted (k .longitudes) (k .segments) ≡ permitted (Capsule k)
 regroup k =
-    and-assoc (divisionsPermitted (k .divisions)) (segmentCountPermitted (k .segments)) (longitudesPermitted (k .longitudes) (k .segments))
+    and-assoc (divisionsPermitted (k .divisions)) (segmentCountPermitted (k .segments))
+    (longitudesPermitted (k .longitudes) (k .segments))
 
 are-within-requires : tie.Need-are-within-requires
 are-within-requires c κs = search needs
@@ -29,11 +30,13 @@ are-longitudes-permitted-requires c κs = search needs
 
 returns : tie.Need-returns
 returns c = let t = c .before .before in
-    passed (t .before .are-within .ensures) (t .if1 .taken) (c .are-longitudes-permitted .ensures) ∙ regroup (t .before .before .args .self)
+    passed (t .before .are-within .ensures) (t .if1 .taken) (c .are-longitudes-permitted .ensures)
+    ∙ regroup (t .before .before .args .self)
 
 returns-2 : tie.Need-returns-2
 returns-2 c = let k = c .before .before .args .self in
-    failed (longitudesPermitted (k .longitudes) (k .segments)) (c .before .are-within .ensures) (c .if1 .left) ∙ regroup k
+    failed (longitudesPermitted (k .longitudes) (k .segments)) (c .before .are-within .ensures) (c .if1 .left)
+    ∙ regroup k
 
 pub is-permitted-spec : {M : Type 1} → statement M
 is-permitted-spec =

@@ -31,7 +31,8 @@ same-length c = search needs
 returns : tie.Need-returns
 returns c = let a = c .before .before .before .before .before .before .args in
     c .before .before .put-triangles .ensures
-    ∙ ap (λ (x : Surface). overwrite 0 (flatten (surfaceTriangles x (a .first))) (now (a .out))) (c .before .before .before .before .surface .ensures)
+    ∙ ap (λ (x : Surface). overwrite 0 (flatten (surfaceTriangles x (a .first))) (now (a .out)))
+    (c .before .before .before .before .surface .ensures)
     ∙ ap (λ (l : List Triangle). overwrite 0 (flatten l) (now (a .out))) (sym (as-surface (a .self) (a .first)))
 
 pub put-triangles-spec : {M : Type 1} → statement M

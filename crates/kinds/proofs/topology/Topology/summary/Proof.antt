@@ -1,9 +1,14 @@
 -- Each kind answers for its own case. Assumes nothing.
-use mathlib.Core.Path.{sym, subst}
+use mathlib.Core.Path.{_≡_, sym, subst}
 use borrow.Author.Needs.{needs}
 use Rattle.kinds.specs.Kinds.{Summarises}
+use Rattle.kinds.specs.declared.summary.Summary.{Summary}
+use Rattle.kinds.specs.declared.topology.Topology.{Topology}
 use Rattle.kinds.proofs.topology.Topology.summary.Statement.{statement}
 use Rattle.kinds.proofs.topology.Topology.summary.Tie as tie
+
+same : {t u : Topology} {s : Summary} → t ≡ u → Summarises u s → Summarises t s
+same {s = s} is h = subst (λ (x : Topology). Summarises x s) (sym is) h
 
 enum-known-self : tie.Need-enum-known-self
 enum-known-self c = search needs
@@ -36,19 +41,19 @@ summary-requires-5 : tie.Need-summary-requires-5
 summary-requires-5 c κs = search needs
 
 returns : tie.Need-returns
-returns c = subst (λ t. Summarises t (c .summary .result)) (sym (c .before .before .self .given .1)) (c .summary .ensures)
+returns c = same (c .before .before .self .given .1) (c .summary .ensures)
 
 returns-2 : tie.Need-returns-2
-returns-2 c = subst (λ t. Summarises t (c .summary2 .result)) (sym (c .before .before .self2 .given .1)) (c .summary2 .ensures)
+returns-2 c = same (c .before .before .self2 .given .1) (c .summary2 .ensures)
 
 returns-3 : tie.Need-returns-3
-returns-3 c = subst (λ t. Summarises t (c .summary3 .result)) (sym (c .before .before .self3 .given .1)) (c .summary3 .ensures)
+returns-3 c = same (c .before .before .self3 .given .1) (c .summary3 .ensures)
 
 returns-4 : tie.Need-returns-4
-returns-4 c = subst (λ t. Summarises t (c .summary4 .result)) (sym (c .before .before .self4 .given .1)) (c .summary4 .ensures)
+returns-4 c = same (c .before .before .self4 .given .1) (c .summary4 .ensures)
 
 returns-5 : tie.Need-returns-5
-returns-5 c = subst (λ t. Summarises t (c .summary5 .result)) (sym (c .before .before .self5 .given .1)) (c .summary5 .ensures)
+returns-5 c = same (c .before .before .self5 .given .1) (c .summary5 .ensures)
 
 pub summary-spec : {M : Type 1} → statement M
 summary-spec =

@@ -30,8 +30,11 @@ returns : tie.Need-returns
 returns c = let a = c .before .before .before .before .before .before .before .before .args in
     let w = c .before .before .write-triangles in
     let s = c .before .before .before .before .surface .ensures in
-    let p : permitted (a .self) ≡ true = sym (c .before .before .before .before .before .before .is-permitted .ensures) ∙ c .before .before .before .before .before .if1 .taken in (
-      w .ensures .0 ∙ ap (λ (x : Surface). placeable x (a .first) (length (now (a .out)))) s ∙ placeable-writable (a .self) (a .first) (length (now (a .out))) p,
+    let t = c .before .before .before .before .before in
+    let p : permitted (a .self) ≡ true = sym (t .before .is-permitted .ensures) ∙ t .if1 .taken in (
+      w .ensures .0
+          ∙ ap (λ (x : Surface). placeable x (a .first) (length (now (a .out)))) s
+          ∙ placeable-writable (a .self) (a .first) (length (now (a .out))) p,
       w .ensures .1
           ∙ ap (λ (x : Surface). placed (w .result) (flatten (surfaceTriangles x (a .first))) (now (a .out))) s
           ∙ ap (λ (l : List Triangle). placed (w .result) (flatten l) (now (a .out))) (sym (as-surface (a .self) (a .first))),

@@ -39,7 +39,8 @@ same-length-2 c = search needs
 returns-2 : tie.Need-returns-2
 returns-2 c = let a = c .before .before .before .before .before .before .before .args in
     c .before .before .write-grid .ensures
-    ∙ ap (λ l. overwrite 0 (flatten l) (now (a .out))) (sym (bare-parts (a .self) (a .first) (is-bare (c .before .before .before .before))))
+    ∙ ap (λ l. overwrite 0 (flatten l) (now (a .out)))
+    (sym (bare-parts (a .self) (a .first) (is-bare (c .before .before .before .before))))
 
 pub put-triangles-spec : {M : Type 1} → statement M
 put-triangles-spec =

@@ -13,7 +13,8 @@ is-placeable-requires c κs = search needs
 put-triangles-requires : tie.Need-put-triangles-requires
 put-triangles-requires c κs =
     let a = c .before .before .before .before .args in
-    placeable-true (a .self) (a .first) (length (now (a .out))) (sym (c .before .before .is-placeable .ensures) ∙ c .before .if1 .taken)
+    placeable-true (a .self) (a .first) (length (now (a .out)))
+    (sym (c .before .before .is-placeable .ensures) ∙ c .before .if1 .taken)
 
 same-length : tie.Need-same-length
 same-length c = search needs
