@@ -9,5 +9,6 @@ pub use checks::has_no_fold;
 pub use directions::fill_directions;
 pub use framex::Carried;
 pub use segments::direction;
+pub use segments::point;
 pub use segments::segment;
 pub use segments::vertex;

@@ -6,8 +6,8 @@ ghost use Rattle.curve.specs.Segments.{pointAt, vertexOf, segmentOf, seg
 use surface::Chain;
 use vec3::Point;
 
-// The point whose coordinates begin at place `at`.
-pub(crate) fn point(floats: &[f32], at: usize) -> Point
+// Reads the point whose coordinates begin at index `at`.
+pub fn point(floats: &[f32], at: usize) -> Point
     requires { ⌜ at + 3 ≤ length (now floats) ⌝ }
     ensures { λ r. ⌜ r ≡ pointAt (now (floats .entry)) at ⌝ }
 {
