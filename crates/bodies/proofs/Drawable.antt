@@ -11,11 +11,11 @@ use Rattle.laws.specs.Conjunction.{both-true}
 use Rattle.kinds.specs.Kinds.{vertexCount}
 use Rattle.kinds.specs.declared.topology.Topology.{Topology}
 use Rattle.curve.specs.Segments.{verticesIn}
-use Rattle.descriptions.specs.Answers.{isAccepted, refused, accepted}
+use Rattle.answers.specs.Answers.{isAccepted, refused, accepted}
 use Rattle.descriptions.specs.Descriptions.{topologyOf}
 use Rattle.descriptions.specs.Refusals.{shapeTests, ShapePermitted, shapeOf}
 use Rattle.descriptions.specs.declared.description.Description.{Description}
-use Rattle.descriptions.proofs.FirstOf.{accepted-by, all-permitted, passed-by}
+use Rattle.answers.proofs.FirstOf.{accepted-by, all-permitted, passed-by}
 use Rattle.bodies.specs.Bodies.{drawable}
 
 module _ (d : Description) (c : List Float) (room : ℕ) where

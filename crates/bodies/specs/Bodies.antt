@@ -7,9 +7,10 @@ use Prim.Native.Nat.{ℕ, _-_, _*_, _%_}
 use lib.Dec.{eqb, leb}
 use lib.Ieee.{Float}
 use lib.ListN.{length}
+use Rattle.float32.specs.Scan.{allFinite}
 use Rattle.kinds.specs.Kinds.{vertexCount}
 use Rattle.curve.specs.Segments.{verticesIn}
-use Rattle.descriptions.specs.Answers.{isAccepted}
+use Rattle.answers.specs.Answers.{isAccepted}
 use Rattle.descriptions.specs.Descriptions.{curveChain, segmentCount, topologyOf}
 use Rattle.descriptions.specs.Refusals.{shapeOf}
 use Rattle.descriptions.specs.declared.description.Description.{Description}
@@ -27,6 +28,10 @@ verticesOf (Tube n r) c = tubeVertices n r (verticesIn c - 1) c
 verticesOf (Capsule n L r) c = capsuleVertices n L r (verticesIn c - 1) c
 verticesOf (Torus n r) c = torusVertices n r (verticesIn c) c
 verticesOf (ClosedCylinder n S centred r l) c = cylinderVertices r l n S centred
+
+-- whether they are all finite: not "a vertex coordinate worked out isn't finite" (23)
+abbrev pub floatsFinite : Description → List Float → Bool
+floatsFinite d c = allFinite (verticesOf d c)
 
 -- Whether the vertices can be written into a buffer of `room` numbers: whole vertices in the curve
 -- (10), a shape that 10, 20 and 21 do not refuse, and vertices that do not "exceed their buffer"

@@ -3,12 +3,13 @@ ghost use mathlib.Core.Bool.{_&&_};
 ghost use lib.Dec.{leb};
 ghost use lib.ListN.{length};
 ghost use Rattle.laws.specs.Overwrite.{placed};
-ghost use Rattle.descriptions.specs.Answers.{isAccepted, verdictAnswer};
+ghost use Rattle.answers.specs.Answers.{isAccepted};
+ghost use Rattle.descriptions.specs.Answers.{verdictAnswer};
 ghost use Rattle.descriptions.specs.Refusals.{checkedOf};
 ghost use Rattle.bodies.specs.Bodies.{verticesOf, drawable};
 use crate::draw::draw;
+use answers::Refusal;
 use descriptions::Description;
-use descriptions::Refusal;
 use descriptions::Verdict;
 
 // Whether vertices of `size` floats are wanted and fit into `room` floats.

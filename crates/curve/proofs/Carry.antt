@@ -1,4 +1,5 @@
--- What is carried along a curve: on its first segment, and the next, one transport on. Assumes nothing.
+-- What is carried along a curve: on its first segment, and on each segment after it, one transport
+-- further. Assumes nothing.
 use mathlib.Core.Path.{_≡_, refl}
 use mathlib.Core.List.{List}
 use Prim.Native.Nat.{ℕ, _+_}
@@ -9,7 +10,8 @@ use Rattle.curve.specs.Segments.{segmentDirection}
 use Rattle.vec3.specs.Frames.{firstFrame}
 use Rattle.curve.specs.Framex.{frameOf, carriedOf, carriedOn, carriedTo}
 
-pub carried-first : (chain : Chain) (count : ℕ) (c : List Float) → carriedOn (segmentDirection chain count c 0) ≡ carriedOf chain count c 0
+pub carried-first : (chain : Chain) (count : ℕ) (c : List Float)
+    → carriedOn (segmentDirection chain count c 0) ≡ carriedOf chain count c 0
 unfolding carriedOn carriedOf frameOf firstFrame segmentDirection
 carried-first chain count c = refl
 

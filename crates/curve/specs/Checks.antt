@@ -1,16 +1,19 @@
--- What is refused of a curve's segments and corners. Document 01, 'Refused, and through whom'. Definitions only.
+-- What is refused of a curve's segments and corners. Document 01, 'Refused, and through whom'.
+-- Definitions only.
 use mathlib.Core.Bool.{Bool, not, _||_}
 use mathlib.Core.List.{List}
-use Prim.Native.Nat.{ℕ, _+_, _-_}
+use Prim.Native.Nat.{ℕ, _<_}
 use lib.Ieee.{Float, binary32, ofBits, lt}
 use lib.Ieee.Scale.{finite}
 use Rattle.laws.specs.Every.{every}
+use Rattle.surface.specs.Grid.{afterOf}
 use Rattle.surface.specs.declared.grid.Chain.{Chain}
 use Rattle.vec3.specs.Points.{plus, dotOf}
 use Rattle.vec3.specs.declared.points.Point.{Point}
-use Rattle.curve.specs.Segments.{verticesIn, vertexOf, segmentOf, segmentDirection}
+use Rattle.curve.specs.Segments.{vertexOf, segmentOf, segmentDirection}
 
--- 12: "a segment .. whose difference dotted with itself is below 2^−40 or above 2^80 or not finite". 2B800000 is 2^−40, 67800000 is 2^80.
+-- 12: "a segment .. whose difference dotted with itself is below 2^−40 or above 2^80 or not
+-- finite". 2B800000 is 2^−40, 67800000 is 2^80.
 unfoldable pub segmentRefused : Point → Bool
 segmentRefused v =
     let d = dotOf v v in
@@ -20,14 +23,29 @@ segmentRefused v =
 unfoldable pub segmentsPermitted : Chain → ℕ → List Float → Bool
 segmentsPermitted chain count c = every count (λ k. not (segmentRefused (segmentOf chain count c k)))
 
--- 13: "a fold: 1 + c below 2^−12", c being the dot of the two directions. 3F800000 is 1, 39800000 is 2^−12.
-unfoldable pub foldRefused : Point → Point → Bool
-foldRefused u w = lt (plus (ofBits binary32 0x3F80_0000) (dotOf u w)) (ofBits binary32 0x3980_0000)
+-- "c = dot(u, w)" for "segment directions normalised u, w" ('Arithmetic', of a transport step), at
+-- corner k: u is the direction of segment k, which ends there, w that of the segment after it.
+unfoldable pub cornerCosine : Chain → ℕ → List Float → ℕ → Float
+cornerCosine chain count c k =
+    dotOf (segmentDirection chain count c k) (segmentDirection chain count c (afterOf chain count k))
 
--- "at vertices 1 to m − 1, for a torus 1 to N − 1": vertex k + 1, between segments k and k + 1, for every k + 1 below the number of segments
-unfoldable pub foldsPermitted : Chain → ℕ → List Float → Bool
-foldsPermitted chain count c = every (count - 1) (λ k. not (foldRefused (segmentDirection chain count c k) (segmentDirection chain count c (k + 1))))
+-- 13: "a fold: 1 + c below 2^−12". 3F800000 is 1, 39800000 is 2^−12.
+unfoldable pub isFold : Float → Bool
+isFold c = lt (plus (ofBits binary32 0x3F80_0000) c) (ofBits binary32 0x3980_0000)
 
--- the same of a table of directions (`directionsOf`), as the law `folds-in-table` of the proofs says
-unfoldable pub noFoldIn : List Float → Bool
-noFoldIn d = every (verticesIn d - 1) (λ k. not (foldRefused (vertexOf d k) (vertexOf d (k + 1))))
+-- None of the first `corners` corners is a fold (13); which number of them 13 covers is said with
+-- the descriptions. Corner k stands at vertex k + 1, on a loop the last one at vertex 0.
+unfoldable pub foldsPermitted : Chain → ℕ → ℕ → List Float → Bool
+foldsPermitted chain count corners c = every corners (λ k. not (isFold (cornerCosine chain count c k)))
+
+-- c and folds again, from a table that holds the directions of the segments: the law
+-- `folds-in-table` of the proofs says that they are the curve's.
+unfoldable pub cosineIn : Chain → ℕ → List Float → ℕ → Float
+cosineIn chain count table k = dotOf (vertexOf table k) (vertexOf table (afterOf chain count k))
+
+unfoldable pub noFoldIn : Chain → ℕ → ℕ → List Float → Bool
+noFoldIn chain count corners table = every corners (λ k. not (isFold (cosineIn chain count table k)))
+
+-- Each of the first `corners` corners lies between two segments of the curve.
+abbrev pub CornersWithin : Chain → ℕ → ℕ → Type 0
+CornersWithin chain count corners = (k : ℕ) → k < corners → (k < count) × (afterOf chain count k < count)

@@ -1,5 +1,6 @@
--- A curve's vertices and segments (document 01, 'Triangle lists': "m curve segments"; 'Frames and vertices'). A curve is open or closed and
--- has so many segments: m between m + 1 vertices, or N between N, the last of which is the closing one. Definitions only.
+-- A curve's vertices and segments (document 01, 'Triangle lists': "m curve segments"; 'Frames and
+-- vertices'). An open curve has m segments between its m + 1 vertices. A closed one has N segments
+-- between its N vertices; the last is the closing one. Definitions only.
 use mathlib.Core.Bool.{cond}
 use mathlib.Core.List.{List}
 use Prim.Native.Nat.{ℕ, _+_, _*_, _/_}
@@ -16,15 +17,17 @@ use Rattle.vec3.specs.declared.points.Point.{Point}
 abbrev pub verticesIn : List Float → ℕ
 verticesIn c = length c / 3
 
--- the point whose coordinates begin at place p
+-- the point whose coordinates begin at index p
 abbrev pub pointAt : List Float → ℕ → Point
 pointAt c p = record { x = getD c p nan; y = getD c (p + 1) nan; z = getD c (p + 2) nan }
 
--- Vertex k: "Vertices are three f32 each" ('The shared set'). Where the curve has no vertex k, of which the paper says nothing, NaNs.
+-- Vertex k: "Vertices are three f32 each" ('The shared set'). Where the curve has no vertex k, of
+-- which the paper says nothing, NaNs.
 unfoldable pub vertexOf : List Float → ℕ → Point
 vertexOf c k = cond (ltb k (verticesIn c)) (pointAt c (3 * k)) (record { x = nan; y = nan; z = nan })
 
--- Segment k of `count`: the difference from vertex k to the next one, which for the closing segment is vertex 0.
+-- Segment k of `count`: the difference from vertex k to the next one. For the closing segment that
+-- is vertex 0.
 unfoldable pub segmentOf : Chain → ℕ → List Float → ℕ → Point
 segmentOf chain count c k = differenceOf (vertexOf c (afterOf chain count k)) (vertexOf c k)
 
@@ -32,6 +35,6 @@ segmentOf chain count c k = differenceOf (vertexOf c (afterOf chain count k)) (v
 unfoldable pub segmentDirection : Chain → ℕ → List Float → ℕ → Point
 segmentDirection chain count c k = normalised (segmentOf chain count c k)
 
--- The table of the directions: each segment's, one after the other, so that a body's are worked out once.
+-- The table of the directions: each segment's, one after the other. A body's are worked out once.
 unfoldable pub directionsOf : Chain → ℕ → List Float → List Float
 directionsOf chain count c = blocks count (λ k. coordinates (segmentDirection chain count c k))

@@ -1,11 +1,12 @@
 ghost use mathlib.Core.Path.{_≡_};
-ghost use Rattle.curve.specs.Checks.{segmentRefused, foldRefused, segmentsPermitted, noFoldIn};
-use crate::segments::point;
+ghost use Rattle.curve.specs.Checks.{segmentRefused, segmentsPermitted, isFold, cosineIn, noFoldIn};
+use crate::segments::end;
 use crate::segments::segment;
+use crate::segments::vertex;
 use surface::Chain;
 use vec3::Point;
 
-// 12, of a segment.
+// Whether a segment is refused for its length (12).
 fn is_refused(v: Point) -> bool
     ensures { λ r. ⌜ r ≡ segmentRefused v ⌝ }
 {
@@ -15,7 +16,7 @@ fn is_refused(v: Point) -> bool
         || !float32::is_finite(d)
 }
 
-// Whether none of `count` segments is refused by 12.
+// Whether none of the `count` segments is refused for its length (12).
 pub fn are_segments_permitted(chain: Chain, count: u16, curve: &[f32]) -> bool
     ensures { λ r. ⌜ r ≡ segmentsPermitted chain count (now (curve .entry)) ⌝ }
 {
@@ -29,24 +30,33 @@ pub fn are_segments_permitted(chain: Chain, count: u16, curve: &[f32]) -> bool
     true
 }
 
-// 13, between segments along u and w.
-fn is_fold(u: Point, w: Point) -> bool
-    ensures { λ r. ⌜ r ≡ foldRefused u w ⌝ }
+// Document 01's c at the corner where segment k of `count` ends: the dot of its direction with
+// that of the segment after it. `directions` begins with the directions of all segments.
+fn corner_cosine(chain: Chain, count: u16, directions: &[f32], k: u16) -> f32
+    ensures { λ r. ⌜ r ≡ cosineIn chain count (now (directions .entry)) k ⌝ }
 {
-    1.0 + u.dot(w) < 0.000244140625
+    let after = end(chain, count, k);
+    vertex(directions, k as usize).dot(vertex(directions, after))
 }
 
-// Whether 13 refuses no vertex between two segments, one after the other, of a table of directions.
-pub fn has_no_fold(directions: &[f32]) -> bool
-    ensures { λ r. ⌜ r ≡ noFoldIn (now (directions .entry)) ⌝ }
+// Whether a corner with this c is a fold (13).
+fn is_fold(c: f32) -> bool
+    ensures { λ r. ⌜ r ≡ isFold c ⌝ }
 {
-    let count = directions.len() / 3;
-    let mut k: usize = 1;
-    while k < count {
-        if is_fold(point(directions, 3 * k - 3), point(directions, 3 * k)) {
+    1.0 + c < 0.000244140625
+}
+
+// Whether none of the first `corners` corners is a fold (13). `directions` begins with the
+// directions of the `count` segments.
+pub fn has_no_fold(chain: Chain, count: u16, corners: u16, directions: &[f32]) -> bool
+    ensures { λ r. ⌜ r ≡ noFoldIn chain count corners (now (directions .entry)) ⌝ }
+{
+    let mut corner: u16 = 0;
+    while corner < corners {
+        if is_fold(corner_cosine(chain, count, directions, corner)) {
             return false;
         }
-        k += 1;
+        corner += 1;
     }
     true
 }

@@ -3,14 +3,15 @@ ghost use Rattle.curve.specs.Framex.{carriedOn, carriedTo};
 use vec3::Frame;
 use vec3::Point;
 
-// `vtx2framex` of polyline3 and polyloop3, one segment at a time: a segment's frame, and its direction, which the next step needs again.
+// `vtx2framex` of polyline3 and polyloop3, one segment at a time: a segment's frame, with its
+// direction, which the next step needs again.
 pub struct Carried {
     pub frame: Frame,
     pub direction: Point,
 }
 
 impl Carried {
-    // On the first segment, along u.
+    // What is carried on the first segment, whose direction is `u`.
     pub fn first(u: Point) -> Carried
         ensures { λ r. ⌜ r ≡ carriedOn u ⌝ }
     {
@@ -20,7 +21,7 @@ impl Carried {
         }
     }
 
-    // On to the segment along w.
+    // The same on the next segment, whose direction is `w`.
     pub fn next(self, w: Point) -> Carried
         ensures { λ r. ⌜ r ≡ carriedTo self w ⌝ }
     {

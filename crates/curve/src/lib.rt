@@ -1,4 +1,5 @@
-// A curve as it is lent: vertices three coordinates each, its segments and their directions, what is refused of it, and the frames along it.
+// A lent curve, three coordinates for each vertex: its vertices, its segments and their
+// directions, the refusals of a segment (12) and of a fold (13), and the frames along it.
 mod checks;
 mod directions;
 mod framex;

@@ -18,7 +18,7 @@ pub fn point(floats: &[f32], at: usize) -> Point
     }
 }
 
-// Vertex k; NaNs where the curve has none.
+// Vertex k, or NaNs if the curve has no vertex k.
 pub fn vertex(curve: &[f32], k: usize) -> Point
     ensures { λ r. ⌜ r ≡ vertexOf (now (curve .entry)) k ⌝ }
 {
@@ -33,8 +33,9 @@ pub fn vertex(curve: &[f32], k: usize) -> Point
     }
 }
 
-// The vertex in which segment k of `count` ends. Only past the last segment, where no loop comes, is there anything to divide.
-fn end(chain: Chain, count: u16, k: u16) -> usize
+// The vertex at which segment k of `count` ends. The number of the segment after k, too. The
+// division is left to k past the last segment, which no loop reaches.
+pub(crate) fn end(chain: Chain, count: u16, k: u16) -> usize
     ensures { λ r. ⌜ r ≡ afterOf chain count k ⌝ }
 {
     let next = k as usize + 1;
@@ -56,7 +57,7 @@ fn end(chain: Chain, count: u16, k: u16) -> usize
     }
 }
 
-// Segment k of `count`: the difference of its ends.
+// Segment k of `count`, from its first vertex to its last: the difference of the two.
 pub fn segment(chain: Chain, count: u16, curve: &[f32], k: u16) -> Point
     ensures { λ r. ⌜ r ≡ segmentOf chain count (now (curve .entry)) k ⌝ }
 {

@@ -8,12 +8,12 @@ use native.Mathlib.Omega.{arith}
 use lib.Ieee.{Float}
 use Rattle.kinds.specs.declared.topology.Topology.{Topology}
 use Rattle.curve.specs.Segments.{verticesIn}
-use Rattle.descriptions.specs.Answers.{accepted}
+use Rattle.answers.specs.Answers.{accepted}
 use Rattle.descriptions.specs.Descriptions.{topologyOf}
 use Rattle.descriptions.specs.Refusals.{ShapePermitted, checkedTests, checkedOf}
 use Rattle.descriptions.specs.declared.description.Description.{Description}
 use Rattle.descriptions.specs.declared.description.Description.the-variants.{Ribbon, Tube, Capsule, Torus, ClosedCylinder}
-use Rattle.descriptions.proofs.FirstOf.{accepted-by}
+use Rattle.answers.proofs.FirstOf.{accepted-by}
 use Rattle.descriptions.proofs.Shapes.{shape-bounds, checked-shape}
 use Rattle.del_msh.specs.Arrays.{minus, Outside}
 use Rattle.del_msh.specs.Trimesh3Primitive.{cylinder-open-end-number-of-tri-and-vtx}

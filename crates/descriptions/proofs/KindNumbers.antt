@@ -9,18 +9,23 @@ use lib.Ieee.{Float}
 use Rattle.kinds.specs.Limits.{between}
 use Rattle.descriptions.specs.KindNumbers.{kindNumber, lastKind, describedOf}
 use Rattle.descriptions.specs.declared.description.Description.{Description}
-use Rattle.descriptions.specs.declared.description.Description.the-variants.{Ribbon, Tube, Capsule, Torus, ClosedCylinder}
+use Rattle.descriptions.specs.declared.description.Description.the-variants.{Ribbon, Tube, Capsule}
+use Rattle.descriptions.specs.declared.description.Description.the-variants.{Torus, ClosedCylinder}
 use Rattle.descriptions.specs.declared.kind.Described.{Described}
 use Rattle.descriptions.specs.declared.kind.Described.the-variants.{Known, Unknown}
 
--- x, whose number is k, where the kind is k, and one of the others where it is not
-told-by : (kind k : ℕ) (b : Bool) (x : Description) (others : Described) {d : Description} → eqb kind k ≡ b → kindNumber x ≡ k
-    → (others ≡ Known d → kindNumber d ≡ kind) → cond b (Known x) others ≡ Known d → kindNumber d ≡ kind
-told-by kind k true x others {d} e is next h = let same : d ≡ x = cc in ap kindNumber same ∙ is ∙ sym (eqb-true kind k e)
+-- x, whose number is k, is told where the kind is k; where it is not, one of the others is
+told-by : (kind k : ℕ) (b : Bool) (x : Description) (others : Described) {d : Description}
+    → eqb kind k ≡ b → kindNumber x ≡ k → (others ≡ Known d → kindNumber d ≡ kind)
+    → cond b (Known x) others ≡ Known d → kindNumber d ≡ kind
+told-by kind k true x others {d} e is next h =
+    let same : d ≡ x = cc in
+    ap kindNumber same ∙ is ∙ sym (eqb-true kind k e)
 told-by kind k false x others e is next h = next h
 
 -- a description made from a kind's number has that number
-pub kind-told : (kind n L : ℕ) (centred : Bool) (size length : Float) {d : Description} → describedOf kind n L centred size length ≡ Known d
+pub kind-told : (kind n L : ℕ) (centred : Bool) (size length : Float) {d : Description}
+    → describedOf kind n L centred size length ≡ Known d
     → kindNumber d ≡ kind
 unfolding describedOf
 kind-told kind n L centred size length =
@@ -31,7 +36,7 @@ kind-told kind n L centred size length =
     (told-by kind 5 (eqb kind 5) (ClosedCylinder n L centred size length) Unknown refl refl
     (λ h. let z : _≡_ {A = ℕ} 0 1 = cc in absurd (omega arith))))))
 
--- each is one that a sound entry may have
+-- every description's is one that a sound entry may have
 pub kind-between : (d : Description) → between 1 lastKind (kindNumber d) ≡ true
 kind-between (Ribbon w) = refl
 kind-between (Tube n r) = refl

@@ -1,4 +1,3 @@
-pub mod FirstOf
 pub mod Shapes
 pub mod Checked
 pub mod KindNumbers

@@ -1,10 +1,12 @@
--- Kinds by their numbers, as document 01, 'The shared set', has them in records and in entries. Definitions only.
+-- Kinds by their numbers, as document 01, 'The shared set', has them in records and in entries.
+-- Definitions only.
 use mathlib.Core.Bool.{Bool, cond}
 use Prim.Native.Nat.{ℕ}
 use lib.Dec.{eqb}
 use lib.Ieee.{Float}
 use Rattle.descriptions.specs.declared.description.Description.{Description}
-use Rattle.descriptions.specs.declared.description.Description.the-variants.{Ribbon, Tube, Capsule, Torus, ClosedCylinder}
+use Rattle.descriptions.specs.declared.description.Description.the-variants.{Ribbon, Tube, Capsule}
+use Rattle.descriptions.specs.declared.description.Description.the-variants.{Torus, ClosedCylinder}
 use Rattle.descriptions.specs.declared.kind.Described.{Described}
 use Rattle.descriptions.specs.declared.kind.Described.the-variants.{Known, Unknown}
 
@@ -28,7 +30,8 @@ divisionsOf (Capsule n L r) = n
 divisionsOf (Torus n r) = n
 divisionsOf (ClosedCylinder n S centred r l) = n
 
--- What a record describes: "kind, n, L (layers S for kind 5), centre flag .., size bits, length bits .. fields a kind lacks are ignored".
+-- What a record describes: "kind, n, L (layers S for kind 5), centre flag .., size bits, length
+-- bits .. fields a kind lacks are ignored".
 unfoldable pub describedOf : ℕ → ℕ → ℕ → Bool → Float → Float → Described
 describedOf kind n L centred size length =
     cond (eqb kind 1) (Known (Ribbon size))

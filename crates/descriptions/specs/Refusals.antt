@@ -1,5 +1,6 @@
--- Every refusal that needs no table, in the order of their numbers, and the orders in which they are tried. Document 01, 'Refused, and
--- through whom'. Each is said by what is permitted; it refuses where that is false. Definitions only.
+-- Every refusal that needs no table, in the order of their numbers, and the orders in which they
+-- are tried. Document 01, 'Refused, and through whom'. Each is said by what is permitted; it
+-- refuses where that is false. Definitions only.
 use mathlib.Core.Bool.{Bool, true, _&&_}
 use mathlib.Core.List.{List, [], _∷_, _++_}
 use Prim.Native.Nat.{ℕ, _-_, _%_, _/_}
@@ -8,41 +9,83 @@ use lib.Ieee.{Float, binary32, ofBits, lt}
 use lib.Ieee.Scale.{finite}
 use lib.ListN.{length}
 use Rattle.float32.specs.Scan.{allFinite}
-use Rattle.kinds.specs.Limits.{between, divisionsPermitted, longitudesPermitted, layersPermitted}
+use Rattle.kinds.specs.Limits.{between, longitudesPermitted, layersPermitted}
 use Rattle.kinds.specs.Kinds.{vertexCount, triangleCount}
 use Rattle.kinds.specs.declared.topology.Topology.{Topology}
 use Rattle.curve.specs.Checks.{segmentsPermitted, foldsPermitted}
-use Rattle.descriptions.specs.Answers.{Answer, Test, Counts, AllPermitted, firstOf}
-use Rattle.descriptions.specs.Descriptions.{curveChain, segmentCount, topologyOf}
+use Rattle.answers.specs.Answers.{Answer, Test, test, AllPermitted, firstOf}
+use Rattle.descriptions.specs.Answers.{Counts}
+use Rattle.descriptions.specs.KindNumbers.{divisionsOf}
+use Rattle.descriptions.specs.Descriptions.{curveChain, segmentCount, cornersOf, topologyOf}
 use Rattle.descriptions.specs.declared.description.Description.{Description}
-use Rattle.descriptions.specs.declared.description.Description.the-variants.{Ribbon, Tube, Capsule, Torus, ClosedCylinder}
+use Rattle.descriptions.specs.declared.description.Description.the-variants.{Ribbon, Tube, Capsule}
+use Rattle.descriptions.specs.declared.description.Description.the-variants.{Torus, ClosedCylinder}
 
--- 10: "vertices outside 2 to 4,096 (torus 3 to 4,096, closed cylinder 0)"
+-- 10 of an open curve: "vertices outside 2 to 4,096"
+abbrev pub leastOpen : ℕ
+leastOpen = 2
+
+abbrev pub mostOpen : ℕ
+mostOpen = 4096
+
+abbrev pub openVerticesPermitted : ℕ → Bool
+openVerticesPermitted N = between leastOpen mostOpen N
+
+-- 10 by the kind: "vertices outside 2 to 4,096 (torus 3 to 4,096, closed cylinder 0)"
+abbrev pub leastVertices : Description → ℕ
+leastVertices (Ribbon w) = leastOpen
+leastVertices (Tube n r) = leastOpen
+leastVertices (Capsule n L r) = leastOpen
+leastVertices (Torus n r) = 3
+leastVertices (ClosedCylinder n S centred r l) = 0
+
+abbrev pub mostVertices : Description → ℕ
+mostVertices (Ribbon w) = mostOpen
+mostVertices (Tube n r) = mostOpen
+mostVertices (Capsule n L r) = mostOpen
+mostVertices (Torus n r) = 4096
+mostVertices (ClosedCylinder n S centred r l) = 0
+
 abbrev pub verticesPermitted : Description → ℕ → Bool
-verticesPermitted (Ribbon w) N = between 2 4096 N
-verticesPermitted (Tube n r) N = between 2 4096 N
-verticesPermitted (Capsule n L r) N = between 2 4096 N
-verticesPermitted (Torus n r) N = between 3 4096 N
-verticesPermitted (ClosedCylinder n S centred r l) N = eqb N 0
+verticesPermitted d N = between (leastVertices d) (mostVertices d) N
 
--- 10 of a curve: "length not a multiple of 3" too
+-- 10 of a curve: no "length not a multiple of 3"
+abbrev pub wholeVertices : List Float → Bool
+wholeVertices c = eqb (length c % 3) 0
+
+-- all of 10, for an open curve without a description and for the curve of a description
+abbrev pub openCurvePermitted : List Float → Bool
+openCurvePermitted c = wholeVertices c && openVerticesPermitted (length c / 3)
+
 abbrev pub curvePermitted : Description → List Float → Bool
-curvePermitted d c = eqb (length c % 3) 0 && verticesPermitted d (length c / 3)
+curvePermitted d c = wholeVertices c && verticesPermitted d (length c / 3)
 
--- 12 and 13, over the curve's segments
+-- 12 and 13, over the curve's segments and the corners that 13 covers
 abbrev pub curveSegmentsPermitted : Description → List Float → Bool
 curveSegmentsPermitted d c = segmentsPermitted (curveChain d) (segmentCount d (length c / 3)) c
 
 abbrev pub curveFoldsPermitted : Description → List Float → Bool
-curveFoldsPermitted d c = foldsPermitted (curveChain d) (segmentCount d (length c / 3)) c
+curveFoldsPermitted d c =
+    let N = length c / 3 in
+    foldsPermitted (curveChain d) (segmentCount d N) (cornersOf d N) c
 
--- 20: "n outside 3 to 256 (not ribbon)"
+-- 20: "n outside 3 to 256 (not ribbon)", whose n is 0
+abbrev pub leastDivisions : Description → ℕ
+leastDivisions (Ribbon w) = 0
+leastDivisions (Tube n r) = 3
+leastDivisions (Capsule n L r) = 3
+leastDivisions (Torus n r) = 3
+leastDivisions (ClosedCylinder n S centred r l) = 3
+
+abbrev pub mostDivisions : Description → ℕ
+mostDivisions (Ribbon w) = 0
+mostDivisions (Tube n r) = 256
+mostDivisions (Capsule n L r) = 256
+mostDivisions (Torus n r) = 256
+mostDivisions (ClosedCylinder n S centred r l) = 256
+
 abbrev pub roundPermitted : Description → Bool
-roundPermitted (Ribbon w) = true
-roundPermitted (Tube n r) = divisionsPermitted n
-roundPermitted (Capsule n L r) = divisionsPermitted n
-roundPermitted (Torus n r) = divisionsPermitted n
-roundPermitted (ClosedCylinder n S centred r l) = divisionsPermitted n
+roundPermitted d = between (leastDivisions d) (mostDivisions d) (divisionsOf d)
 
 -- 21: "L above 256 or 2L + m below 3; layers S outside 1 to 4,096"
 abbrev pub lengthwisePermitted : Description → ℕ → Bool
@@ -62,9 +105,6 @@ sizesPermitted (Tube n r) = sizePermitted r
 sizesPermitted (Capsule n L r) = sizePermitted r
 sizesPermitted (Torus n r) = sizePermitted r
 sizesPermitted (ClosedCylinder n S centred r l) = sizePermitted r && sizePermitted l
-
-abbrev pub test : ℕ → Bool → Test
-test number permitted = record { number = number; permitted = permitted }
 
 -- 10, 20, 21 of a number of curve vertices
 abbrev pub shapeTests : Description → ℕ → List Test
@@ -86,22 +126,23 @@ bodyCounts body = record { vertices = vertexCount body; triangles = triangleCoun
 abbrev pub countsOf : Description → ℕ → Answer Counts
 countsOf d N = firstOf (countsTests d N) (bodyCounts (topologyOf d N))
 
--- 22, 11, 12, of the order below
+-- 22, 11 and 12, as they follow one another in the order below
 abbrev pub floatTests : Description → List Float → List Test
 floatTests d c = test 22 (sizesPermitted d) ∷ test 11 (allFinite c) ∷ test 12 (curveSegmentsPermitted d c) ∷ []
 
 abbrev pub floatsOf : Description → Topology → List Float → Answer Topology
 floatsOf d body c = firstOf (floatTests d c) body
 
--- that order but for its end: all that is tried before a segment's direction is worked out
+-- that order without its end: all that is tried before a segment's direction is worked out
 abbrev pub segmentTests : Description → List Float → List Test
 segmentTests d c =
-    test 10 (curvePermitted d c) ∷ test 20 (roundPermitted d) ∷ test 21 (lengthwisePermitted d (length c / 3)) ∷ floatTests d c
+    let N = length c / 3 in
+    test 10 (curvePermitted d c) ∷ test 20 (roundPermitted d) ∷ test 21 (lengthwisePermitted d N) ∷ floatTests d c
 
 abbrev pub segmentsCheckedOf : Description → List Float → Answer Topology
 segmentsCheckedOf d c = firstOf (segmentTests d c) (topologyOf d (length c / 3))
 
--- its end
+-- its end: a fold (13)
 abbrev pub foldTests : Description → List Float → List Test
 foldTests d c = test 13 (curveFoldsPermitted d c) ∷ []
 

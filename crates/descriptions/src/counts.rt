@@ -1,13 +1,14 @@
 ghost use mathlib.Core.Path.{_≡_};
 ghost use Rattle.descriptions.specs.Answers.{verdictAnswer, countedAnswer};
 ghost use Rattle.descriptions.specs.Refusals.{shapeOf, countsOf};
-use crate::answers::Counted;
-use crate::answers::Refusal;
-use crate::answers::Verdict;
 use crate::description::Description;
+use crate::verdict::Counted;
+use crate::verdict::Verdict;
+use answers::Refusal;
 
 impl Description {
-    // Refusals 10, 20 and 21, or the body by its numbers.
+    // Checks the number of the curve's vertices (10), the divisions (20) and the longitudes or
+    // layers (21), and answers the first refusal or the body by its numbers.
     pub fn shape(self, vertices: usize) -> Verdict
         ensures { λ r. ⌜ verdictAnswer r ≡ shapeOf self vertices ⌝ }
     {
@@ -23,7 +24,8 @@ impl Description {
         Verdict::Accepted(self.topology(vertices))
     }
 
-    // Refusals 10, 20, 21 and 22, or how many vertices and triangles the body along a curve of so many vertices has.
+    // Checks the same and then the sizes (22), and answers the first refusal or how many vertices
+    // and triangles the body has.
     pub fn counts(self, vertices: usize) -> Counted
         ensures { λ r. ⌜ countedAnswer r ≡ countsOf self vertices ⌝ }
     {

@@ -1,6 +1,6 @@
 ghost use mathlib.Core.Path.{_≡_};
 ghost use mathlib.Core.Bool.{true};
-ghost use Rattle.descriptions.specs.Descriptions.{curveChain, segmentCount, topologyOf};
+ghost use Rattle.descriptions.specs.Descriptions.{curveChain, segmentCount, cornersOf, topologyOf};
 ghost use Rattle.descriptions.specs.Refusals.{verticesPermitted, ShapePermitted};
 use kinds::Capsule;
 use kinds::ClosedCylinder;
@@ -10,7 +10,7 @@ use kinds::Torus;
 use kinds::Tube;
 use surface::Chain;
 
-// One of five kinds, each with its sizes. What the curve gives, its number of vertices, is not part of it.
+// One of five kinds, each with its sizes. The curve is handed over beside it.
 pub enum Description {
     Ribbon {
         width: f32,
@@ -38,7 +38,7 @@ pub enum Description {
 }
 
 impl Description {
-    // Whether the curve closes.
+    // Whether its curve is closed.
     pub fn chain(self) -> Chain
         ensures { λ r. ⌜ r ≡ curveChain self ⌝ }
     {
@@ -51,8 +51,8 @@ impl Description {
         }
     }
 
-    // How many segments a permitted curve of so many vertices has.
-    pub(crate) fn segment_count(self, vertices: usize) -> u16
+    // How many segments a curve of a permitted number of vertices has.
+    pub fn segment_count(self, vertices: usize) -> u16
         requires { ⌜ verticesPermitted self vertices ≡ true ⌝ }
         ensures { λ r. ⌜ r ≡ segmentCount self vertices ⌝ }
     {
@@ -65,37 +65,43 @@ impl Description {
         }
     }
 
-    // The body by its numbers.
+    // At how many corners such a curve is checked for folds (13): at the end of every segment but
+    // the last.
+    pub fn corner_count(self, vertices: usize) -> u16
+        requires { ⌜ verticesPermitted self vertices ≡ true ⌝ }
+        ensures { λ r. ⌜ r ≡ cornersOf self vertices ⌝ }
+    {
+        let segments = self.segment_count(vertices);
+        if segments == 0 {
+            return 0;
+        }
+        segments - 1
+    }
+
+    // The body by its numbers. A loop has as many vertices as segments.
     pub(crate) fn topology(self, vertices: usize) -> Topology
         requires { ⌜ ShapePermitted self vertices ⌝ }
         ensures { λ r. ⌜ r ≡ topologyOf self vertices ⌝ }
     {
         let segments = self.segment_count(vertices);
+        let divisions = self.divisions() as u16;
         match self {
             Description::Ribbon { .. } => Topology::Ribbon(Ribbon { segments }),
-            Description::Tube { divisions, .. } => Topology::Tube(Tube {
-                divisions: divisions as u16,
+            Description::Tube { .. } => Topology::Tube(Tube {
+                divisions,
                 segments,
             }),
-            Description::Capsule {
+            Description::Capsule { longitudes, .. } => Topology::Capsule(Capsule {
                 divisions,
-                longitudes,
-                ..
-            } => Topology::Capsule(Capsule {
-                divisions: divisions as u16,
                 longitudes: longitudes as u16,
                 segments,
             }),
-            Description::Torus { divisions, .. } => Topology::Torus(Torus {
-                divisions: divisions as u16,
-                vertices: vertices as u16,
-            }),
-            Description::ClosedCylinder {
+            Description::Torus { .. } => Topology::Torus(Torus {
                 divisions,
-                layers,
-                ..
-            } => Topology::ClosedCylinder(ClosedCylinder {
-                divisions: divisions as u16,
+                vertices: segments,
+            }),
+            Description::ClosedCylinder { layers, .. } => Topology::ClosedCylinder(ClosedCylinder {
+                divisions,
                 layers: layers as u16,
             }),
         }

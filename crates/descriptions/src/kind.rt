@@ -2,17 +2,18 @@ ghost use mathlib.Core.Path.{_≡_};
 ghost use Rattle.descriptions.specs.KindNumbers.{describedOf, kindNumber, divisionsOf};
 use crate::description::Description;
 
-// The kinds are numbered from 1 to this.
+// The number of the last kind; the first is 1.
 pub const LAST_KIND: u32 = 5;
 
-// A description by its kind's number, or none: there are five kinds.
+// The description that has a kind's number, or `Unknown` where no kind has it.
 pub enum Described {
     Known(Description),
     Unknown,
 }
 
-// The description with the kind's number and the sizes that the kind has; the others are ignored. `size` is the width of a ribbon and the
-// radius of the others, `steps` the longitudes of a capsule and the layers of a closed cylinder.
+// Makes the description of the kind that has the number `kind`. `size` is the width of a ribbon
+// and the radius of the others, `steps` the longitudes of a capsule and the layers of a closed
+// cylinder. What a kind lacks is ignored.
 pub fn of_kind(
     kind: u32,
     divisions: u32,
@@ -63,7 +64,7 @@ impl Description {
         }
     }
 
-    // Its divisions round, as an entry has them: a ribbon has 0.
+    // The number of its divisions round, as an entry has it: 0 for a ribbon.
     pub fn divisions(self) -> u32
         ensures { λ r. ⌜ r ≡ divisionsOf self ⌝ }
     {

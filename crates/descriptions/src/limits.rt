@@ -1,8 +1,8 @@
 ghost use mathlib.Core.Path.{_≡_};
 ghost use mathlib.Core.Bool.{true};
-ghost use Prim.Native.Nat.{_+_};
-ghost use Rattle.kinds.specs.Limits.{between};
-ghost use Rattle.descriptions.specs.Refusals.{verticesPermitted, roundPermitted, lengthwisePermitted, sizePermitted, sizesPermitted};
+ghost use Rattle.descriptions.specs.Refusals.{leastVertices, mostVertices, verticesPermitted};
+ghost use Rattle.descriptions.specs.Refusals.{leastDivisions, mostDivisions, roundPermitted};
+ghost use Rattle.descriptions.specs.Refusals.{lengthwisePermitted, sizePermitted, sizesPermitted};
 use crate::description::Description;
 use kinds::Capsule;
 use kinds::ClosedCylinder;
@@ -11,13 +11,7 @@ use kinds::Torus;
 use kinds::Tube;
 use kinds::is_between;
 
-// As many vertices as an open curve of so many segments has.
-fn is_open_curve(least: u16, most: u16, vertices: usize) -> bool
-    ensures { λ r. ⌜ r ≡ between (least + 1) (most + 1) vertices ⌝ }
-{
-    least as usize + 1 <= vertices && vertices <= most as usize + 1
-}
-
+// Whether a radius, a width or a length is permitted (22).
 fn is_size_permitted(x: f32) -> bool
     ensures { λ r. ⌜ r ≡ sizePermitted x ⌝ }
 {
@@ -25,67 +19,79 @@ fn is_size_permitted(x: f32) -> bool
 }
 
 impl Description {
-    // 10: the number of vertices
+    // The least number of vertices that its curve may have. An open curve has one vertex more than
+    // segments.
+    fn least_vertices(self) -> u16
+        ensures { λ r. ⌜ r ≡ leastVertices self ⌝ }
+    {
+        match self {
+            Description::Ribbon { .. } => Ribbon::LEAST_SEGMENTS + 1,
+            Description::Tube { .. } => Tube::LEAST_SEGMENTS + 1,
+            Description::Capsule { .. } => Capsule::LEAST_SEGMENTS + 1,
+            Description::Torus { .. } => Torus::LEAST_VERTICES,
+            Description::ClosedCylinder { .. } => ClosedCylinder::CURVE_VERTICES,
+        }
+    }
+
+    // The most.
+    fn most_vertices(self) -> u16
+        ensures { λ r. ⌜ r ≡ mostVertices self ⌝ }
+    {
+        match self {
+            Description::Ribbon { .. } => Ribbon::MOST_SEGMENTS + 1,
+            Description::Tube { .. } => Tube::MOST_SEGMENTS + 1,
+            Description::Capsule { .. } => Capsule::MOST_SEGMENTS + 1,
+            Description::Torus { .. } => Torus::MOST_VERTICES,
+            Description::ClosedCylinder { .. } => ClosedCylinder::CURVE_VERTICES,
+        }
+    }
+
+    // The least number of divisions round that it may have. A ribbon has none.
+    fn least_divisions(self) -> u16
+        ensures { λ r. ⌜ r ≡ leastDivisions self ⌝ }
+    {
+        match self {
+            Description::Ribbon { .. } => 0,
+            Description::Tube { .. } => Tube::LEAST_DIVISIONS,
+            Description::Capsule { .. } => Capsule::LEAST_DIVISIONS,
+            Description::Torus { .. } => Torus::LEAST_DIVISIONS,
+            Description::ClosedCylinder { .. } => ClosedCylinder::LEAST_DIVISIONS,
+        }
+    }
+
+    // The most.
+    fn most_divisions(self) -> u16
+        ensures { λ r. ⌜ r ≡ mostDivisions self ⌝ }
+    {
+        match self {
+            Description::Ribbon { .. } => 0,
+            Description::Tube { .. } => Tube::MOST_DIVISIONS,
+            Description::Capsule { .. } => Capsule::MOST_DIVISIONS,
+            Description::Torus { .. } => Torus::MOST_DIVISIONS,
+            Description::ClosedCylinder { .. } => ClosedCylinder::MOST_DIVISIONS,
+        }
+    }
+
+    // Whether its curve may have this number of vertices (10).
     pub(crate) fn are_vertices_permitted(self, vertices: usize) -> bool
         ensures { λ r. ⌜ r ≡ verticesPermitted self vertices ⌝ }
     {
-        match self {
-            Description::Ribbon { .. } => is_open_curve(
-                Ribbon::LEAST_SEGMENTS,
-                Ribbon::MOST_SEGMENTS,
-                vertices,
-            ),
-            Description::Tube { .. } => is_open_curve(
-                Tube::LEAST_SEGMENTS,
-                Tube::MOST_SEGMENTS,
-                vertices,
-            ),
-            Description::Capsule { .. } => is_open_curve(
-                Capsule::LEAST_SEGMENTS,
-                Capsule::MOST_SEGMENTS,
-                vertices,
-            ),
-            Description::Torus { .. } => is_between(
-                Torus::LEAST_VERTICES,
-                Torus::MOST_VERTICES,
-                vertices,
-            ),
-            Description::ClosedCylinder { .. } => {
-                vertices == ClosedCylinder::CURVE_VERTICES as usize
-            }
-        }
+        is_between(self.least_vertices(), self.most_vertices(), vertices)
     }
 
-    // 20: the divisions round
+    // Whether its number of divisions round is permitted (20).
     pub(crate) fn is_round_permitted(self) -> bool
         ensures { λ r. ⌜ r ≡ roundPermitted self ⌝ }
     {
-        match self {
-            Description::Ribbon { .. } => true,
-            Description::Tube { divisions, .. } => is_between(
-                Tube::LEAST_DIVISIONS,
-                Tube::MOST_DIVISIONS,
-                divisions as usize,
-            ),
-            Description::Capsule { divisions, .. } => is_between(
-                Capsule::LEAST_DIVISIONS,
-                Capsule::MOST_DIVISIONS,
-                divisions as usize,
-            ),
-            Description::Torus { divisions, .. } => is_between(
-                Torus::LEAST_DIVISIONS,
-                Torus::MOST_DIVISIONS,
-                divisions as usize,
-            ),
-            Description::ClosedCylinder { divisions, .. } => is_between(
-                ClosedCylinder::LEAST_DIVISIONS,
-                ClosedCylinder::MOST_DIVISIONS,
-                divisions as usize,
-            ),
-        }
+        is_between(
+            self.least_divisions(),
+            self.most_divisions(),
+            self.divisions() as usize,
+        )
     }
 
-    // 21: longitudes and layers, of a permitted number of vertices
+    // Whether its longitudes or layers are permitted (21), for a curve of a permitted number of
+    // vertices.
     pub(crate) fn is_lengthwise_permitted(self, vertices: usize) -> bool
         requires { ⌜ verticesPermitted self vertices ≡ true ⌝ }
         ensures { λ r. ⌜ r ≡ lengthwisePermitted self vertices ⌝ }
@@ -106,7 +112,7 @@ impl Description {
         }
     }
 
-    // 22: radius, width and length
+    // Whether its radius, width and length are permitted (22).
     pub(crate) fn are_sizes_permitted(self) -> bool
         ensures { λ r. ⌜ r ≡ sizesPermitted self ⌝ }
     {

@@ -6,7 +6,7 @@ use crate::curves::COORDINATES;
 use crate::curves::fill_curve;
 use descriptions::Description;
 use descriptions::Verdict;
-use float32::to_word;
+use hex_lines::to_words;
 
 // The most vertices and the most triangles of a body: three such bodies fit into the buffers.
 const MOST: u64 = 1365;
@@ -59,17 +59,6 @@ fn write_body(
             body.write_triangles(0, triangles);
             Counts::of(body.vertex_count(), body.triangle_count())
         }
-    }
-}
-
-// Writes the bits of each float to the same place of `words`.
-pub fn to_words(floats: &[f32], words: &mut [u32])
-    requires { ⌜ length (now floats) ≡ length (now words) ⌝ }
-{
-    let mut i: usize = 0;
-    while i < floats.len() {
-        words[i] = to_word(floats[i]);
-        i += 1;
     }
 }
 

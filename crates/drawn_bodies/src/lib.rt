@@ -7,7 +7,6 @@ mod generator;
 mod loading;
 
 pub use alone::Counts;
-pub use alone::to_words;
 pub use alone::write_alone;
 pub use cases::Case;
 pub use cases::Triple;

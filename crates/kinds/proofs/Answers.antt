@@ -1,4 +1,4 @@
--- A test behind a test that passed, and one that failed: the answers that `&&` gives. Assumes nothing.
+-- The answers that `&&` gives: where its first test passed, and where it failed. Assumes nothing.
 use mathlib.Core.Path.{_≡_, sym, ap, _∙_}
 use mathlib.Core.Bool.{Bool, true, false, _&&_}
 

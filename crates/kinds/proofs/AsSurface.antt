@@ -1,4 +1,5 @@
--- Each body's list, with its first vertex added, is the list of its surface; and so are the counts. Assumes nothing.
+-- Each body's list, with its first vertex added, is the list of its surface; and its counts are
+-- those of its surface. Assumes nothing.
 use mathlib.Core.Path.{_≡_, sym, ap, _∙_}
 use mathlib.Core.Bool.{Bool, true, false, _&&_}
 use mathlib.Core.List.{List, _++_}
@@ -6,7 +7,8 @@ use Prim.Native.Nat.{ℕ, _+_, _*_, _^_}
 use lib.Dec.{leb}
 use native.Mathlib.Omega.{arith}
 use Rattle.surface.specs.Triangles.{Triangle, shift}
-use Rattle.surface.specs.Whole.{surfaceTriangles, surfaceVertexCount, surfaceTriangleCount, fits}
+use Rattle.surface.specs.Limits.{fits}
+use Rattle.surface.specs.Whole.{surfaceTriangles, surfaceVertexCount, surfaceTriangleCount, placeable}
 use Rattle.surface.specs.declared.quads.Split.the-variants as Split
 use Rattle.kinds.specs.Lists.{next, ring, vertex, bottomTriangles, topTriangles, layers, closedTriangles, torusTriangles, tubeTriangles, ribbonTriangles}
 use Rattle.kinds.specs.Kinds.{permitted, vertexCount, triangleCount, trianglesOf, surfaceOf, layersOf, writable}
@@ -88,12 +90,14 @@ same-triangles (Capsule k) = omega arith
 same-triangles (Torus k) = omega arith
 same-triangles (ClosedCylinder k) = omega arith
 
-pub fits-writable : (t : Topology) (first room : ℕ) → permitted t ≡ true → fits (surfaceOf t) first room ≡ writable t first room
-unfolding fits writable
-fits-writable t first room p =
-    (λ j. leb (first + same-vertices t j) (2 ^ 28) && leb (3 * same-triangles t j) room)
-    ∙ sym (ap (λ (b : Bool). b && (leb (first + vertexCount t) (2 ^ 28) && leb (3 * triangleCount t) room)) p)
+pub placeable-writable : (t : Topology) (first room : ℕ) → permitted t ≡ true
+    → placeable (surfaceOf t) first room ≡ writable t first room
+unfolding placeable writable
+placeable-writable t first room p =
+    (λ j. leb (first + same-vertices t j) (2 ^ 28) && fits (same-triangles t j) room)
+    ∙ sym (ap (λ (b : Bool). b && (leb (first + vertexCount t) (2 ^ 28) && fits (triangleCount t) room)) p)
 
 pub not-writable : (t : Topology) (first room : ℕ) → permitted t ≡ false → false ≡ writable t first room
 unfolding writable
-not-writable t first room p = sym (ap (λ (b : Bool). b && (leb (first + vertexCount t) (2 ^ 28) && leb (3 * triangleCount t) room)) p)
+not-writable t first room p =
+    sym (ap (λ (b : Bool). b && (leb (first + vertexCount t) (2 ^ 28) && fits (triangleCount t) room)) p)

@@ -22,7 +22,8 @@ shift-quad Torus first a b d e = refl
 shift-quad Tube first a b d e = refl
 shift-quad Ribbon first a b d e = refl
 
--- Rows of quads, by the numbers of their corners: local ones, and those with the first vertex added.
+-- Rows of quads, by the numbers of their corners: local ones, and those with the first vertex
+-- added.
 pub shift-quads : (split : Split) (first m n : ℕ) (a b d e a′ b′ d′ e′ : ℕ → ℕ → ℕ)
     → ((g i : ℕ) → first + a g i ≡ a′ g i) → ((g i : ℕ) → first + b g i ≡ b′ g i) → ((g i : ℕ) → first + d g i ≡ d′ g i) → ((g i : ℕ) → first + e g i ≡ e′ g i)
     → shift first (blocks m (λ g. blocks n (λ i. quadOf split (a g i) (b g i) (d g i) (e g i))))

@@ -1,4 +1,5 @@
--- The limits of the numbers that make a body. Document 01, 'Refused, and through whom'. Definitions only.
+-- The limits of the numbers that make a body. Document 01, 'Refused, and through whom'.
+-- Definitions only.
 use mathlib.Core.Bool.{Bool, _&&_}
 use Prim.Native.Nat.{ℕ, _+_, _*_}
 use lib.Dec.{leb}

@@ -1,5 +1,5 @@
--- The triangle lists, as document 01, 'Triangle lists', has them: n divisions round, m curve segments, N curve vertices of a torus, S layers.
--- Definitions only.
+-- The triangle lists, as document 01, 'Triangle lists', has them: n divisions round, m curve
+-- segments, N curve vertices of a torus, S layers. Definitions only.
 use mathlib.Core.List.{List, [], _∷_, _++_}
 use Prim.Native.Nat.{ℕ, _+_, _*_, _%_}
 use Rattle.laws.specs.Blocks.{blocks}
@@ -9,7 +9,8 @@ use Rattle.surface.specs.Triangles.{Triangle, triangle}
 abbrev pub next : ℕ → ℕ → ℕ
 next n i = (i + 1) % n
 
--- Capsule and closed cylinder: "vertex 0 the bottom pole, 1 + g·n + i ring g, n(S + 1) + 1 the top pole".
+-- Capsule and closed cylinder: "vertex 0 the bottom pole, 1 + g·n + i ring g, n(S + 1) + 1 the
+-- top pole".
 abbrev pub ring : ℕ → ℕ → ℕ → ℕ
 ring n g i = 1 + g * n + i
 
@@ -17,7 +18,8 @@ ring n g i = 1 + g * n + i
 abbrev pub bottomTriangles : ℕ → List Triangle
 bottomTriangles n = blocks n (λ i. triangle 0 (ring n 0 i) (ring n 0 (next n i)) ∷ [])
 
--- "Then each layer g and each i, with p1 = (g, i), p2 = (g, i + 1), p3 = (g + 1, i + 1), p4 = (g + 1, i): (p3, p2, p1), (p4, p3, p1)."
+-- "Then each layer g and each i, with p1 = (g, i), p2 = (g, i + 1), p3 = (g + 1, i + 1),
+-- p4 = (g + 1, i): (p3, p2, p1), (p4, p3, p1)."
 abbrev pub layerQuad : ℕ → ℕ → ℕ → List Triangle
 layerQuad n g i =
     let p1 = ring n g i in
@@ -40,7 +42,8 @@ closedTriangles n S = bottomTriangles n ++ (layers n S ++ topTriangles n S)
 abbrev pub vertex : ℕ → ℕ → ℕ → ℕ
 vertex n g i = g * n + i
 
--- Torus: "a = (g, i), b = (g, i + 1), and ring g + 1 wrapping at N with d = (g + 1, i), e = (g + 1, i + 1): (a, b, d), (e, d, b)".
+-- Torus: "a = (g, i), b = (g, i + 1), and ring g + 1 wrapping at N with d = (g + 1, i),
+-- e = (g + 1, i + 1): (a, b, d), (e, d, b)".
 abbrev pub torusQuad : ℕ → ℕ → ℕ → ℕ → List Triangle
 torusQuad n N g i =
     let a = vertex n g i in

@@ -1,15 +1,19 @@
 ghost use mathlib.Core.Path.{_≡_};
 ghost use mathlib.Core.Bool.{true};
-ghost use Rattle.kinds.specs.Kinds.{permitted, vertexCount, triangleCount, surfaceOf, stepsOf, layersOf};
+ghost use Rattle.kinds.specs.Kinds.{permitted, vertexCount, triangleCount, Summarises, surfaceOf};
+ghost use Rattle.kinds.specs.Kinds.{stepsOf, layersOf};
 ghost use Rattle.kinds.specs.Limits.{longitudesPermitted};
 ghost use Rattle.kinds.specs.declared.topology.Topology.{Topology};
 use crate::limits;
-use surface::Along;
+use crate::limits::Range;
+use crate::summary::Summary;
 use surface::Chain;
+use surface::Ending;
 use surface::Split;
 use surface::Surface;
 
-// A capsule with so many divisions round and longitude divisions in each cap, along a curve of so many segments.
+// A capsule, by the divisions round it, the longitude divisions of each cap and the segments of
+// its curve.
 pub struct Capsule {
     pub divisions: u16,
     pub longitudes: u16,
@@ -32,22 +36,19 @@ impl Capsule {
     pub fn is_permitted(self) -> bool
         ensures { λ r. ⌜ r ≡ permitted (Topology.Capsule self) ⌝ }
     {
-        if limits::is_between(
-            Self::LEAST_DIVISIONS,
-            Self::MOST_DIVISIONS,
-            self.divisions as usize,
-        ) {
-            return limits::is_between(
-                Self::LEAST_SEGMENTS,
-                Self::MOST_SEGMENTS,
-                self.segments as usize,
-            )
-                && Self::are_longitudes_permitted(self.longitudes as u32, self.segments);
-        }
-        false
+        let round = Range {
+            least: Self::LEAST_DIVISIONS,
+            most: Self::MOST_DIVISIONS,
+        };
+        let along = Range {
+            least: Self::LEAST_SEGMENTS,
+            most: Self::MOST_SEGMENTS,
+        };
+        limits::are_within(self.divisions, round, self.segments, along)
+            && Self::are_longitudes_permitted(self.longitudes as u32, self.segments)
     }
 
-    // So many longitude divisions in each cap, and both caps with the segments.
+    // Whether the longitude divisions are permitted, alone and together with the segments.
     pub fn are_longitudes_permitted(longitudes: u32, segments: u16) -> bool
         ensures { λ r. ⌜ r ≡ longitudesPermitted longitudes segments ⌝ }
     {
@@ -62,7 +63,8 @@ impl Capsule {
         2 * self.longitudes as u32 + self.segments as u32
     }
 
-    // The layers of quads between the caps; none where there are too few steps, so that the counts are defined for every capsule.
+    // The layers of quads between the caps; none where there are too few steps, so that the counts
+    // are defined for every capsule.
     fn layers(self) -> u32
         ensures { λ r. ⌜ r ≡ layersOf self ⌝ }
     {
@@ -85,6 +87,16 @@ impl Capsule {
         2 * limits::product(self.divisions, self.layers() + 1)
     }
 
+    pub(crate) fn summary(self) -> Summary
+        ensures { λ r. ⌜ Summarises (Topology.Capsule self) r ⌝ }
+    {
+        Summary {
+            permitted: self.is_permitted(),
+            vertices: self.vertex_count(),
+            triangles: self.triangle_count(),
+        }
+    }
+
     // The grid of quads that the body's list is made of.
     pub(crate) fn surface(self) -> Surface
         requires { ⌜ permitted (Topology.Capsule self) ≡ true ⌝ }
@@ -93,7 +105,7 @@ impl Capsule {
         let layers = self.layers();
         Surface {
             split: Split::Capped,
-            along: Along::Capped,
+            ending: Ending::Capped,
             rows: layers as u16,
             round: Chain::Closed,
             columns: self.divisions,

@@ -1,13 +1,15 @@
 ghost use mathlib.Core.Path.{_≡_};
-ghost use Rattle.kinds.specs.Kinds.{permitted, vertexCount, triangleCount, surfaceOf};
+ghost use Rattle.kinds.specs.Kinds.{permitted, vertexCount, triangleCount, Summarises, surfaceOf};
 ghost use Rattle.kinds.specs.declared.topology.Topology.{Topology};
 use crate::limits;
-use surface::Along;
+use crate::limits::Range;
+use crate::summary::Summary;
 use surface::Chain;
+use surface::Ending;
 use surface::Split;
 use surface::Surface;
 
-// A closed cylinder with so many divisions round and so many layers.
+// A closed cylinder, by the divisions round it and its layers.
 pub struct ClosedCylinder {
     pub divisions: u16,
     pub layers: u16,
@@ -27,12 +29,15 @@ impl ClosedCylinder {
     pub fn is_permitted(self) -> bool
         ensures { λ r. ⌜ r ≡ permitted (Topology.ClosedCylinder self) ⌝ }
     {
-        limits::is_between(
-            Self::LEAST_DIVISIONS,
-            Self::MOST_DIVISIONS,
-            self.divisions as usize,
-        )
-            && limits::is_between(Self::LEAST_LAYERS, Self::MOST_LAYERS, self.layers as usize)
+        let round = Range {
+            least: Self::LEAST_DIVISIONS,
+            most: Self::MOST_DIVISIONS,
+        };
+        let along = Range {
+            least: Self::LEAST_LAYERS,
+            most: Self::MOST_LAYERS,
+        };
+        limits::are_within(self.divisions, round, self.layers, along)
     }
 
     pub fn vertex_count(self) -> u64
@@ -47,13 +52,23 @@ impl ClosedCylinder {
         2 * limits::product(self.divisions, self.layers as u32 + 1)
     }
 
+    pub(crate) fn summary(self) -> Summary
+        ensures { λ r. ⌜ Summarises (Topology.ClosedCylinder self) r ⌝ }
+    {
+        Summary {
+            permitted: self.is_permitted(),
+            vertices: self.vertex_count(),
+            triangles: self.triangle_count(),
+        }
+    }
+
     // The grid of quads that the body's list is made of.
     pub(crate) fn surface(self) -> Surface
         ensures { λ r. ⌜ r ≡ surfaceOf (Topology.ClosedCylinder self) ⌝ }
     {
         Surface {
             split: Split::Capped,
-            along: Along::Capped,
+            ending: Ending::Capped,
             rows: self.layers,
             round: Chain::Closed,
             columns: self.divisions,

@@ -3,6 +3,7 @@ mod capsule;
 mod closed_cylinder;
 mod limits;
 mod ribbon;
+mod summary;
 mod topology;
 mod torus;
 mod tube;

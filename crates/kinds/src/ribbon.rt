@@ -1,13 +1,14 @@
 ghost use mathlib.Core.Path.{_≡_};
-ghost use Rattle.kinds.specs.Kinds.{permitted, vertexCount, triangleCount, surfaceOf};
+ghost use Rattle.kinds.specs.Kinds.{permitted, vertexCount, triangleCount, Summarises, surfaceOf};
 ghost use Rattle.kinds.specs.declared.topology.Topology.{Topology};
 use crate::limits;
-use surface::Along;
+use crate::summary::Summary;
 use surface::Chain;
+use surface::Ending;
 use surface::Split;
 use surface::Surface;
 
-// A ribbon along a curve of so many segments.
+// A ribbon, by the segments of its curve.
 pub struct Ribbon {
     pub segments: u16,
 }
@@ -39,13 +40,23 @@ impl Ribbon {
         2 * self.segments as u64
     }
 
+    pub(crate) fn summary(self) -> Summary
+        ensures { λ r. ⌜ Summarises (Topology.Ribbon self) r ⌝ }
+    {
+        Summary {
+            permitted: self.is_permitted(),
+            vertices: self.vertex_count(),
+            triangles: self.triangle_count(),
+        }
+    }
+
     // The grid of quads that the body's list is made of.
     pub(crate) fn surface(self) -> Surface
         ensures { λ r. ⌜ r ≡ surfaceOf (Topology.Ribbon self) ⌝ }
     {
         Surface {
             split: Split::Ribbon,
-            along: Along::Open,
+            ending: Ending::Open,
             rows: self.segments,
             round: Chain::Open,
             columns: 1,

@@ -1,12 +1,16 @@
 ghost use mathlib.Core.Path.{_≡_};
 ghost use mathlib.Core.Bool.{true};
+ghost use Prim.Native.Nat.{_+_, _*_, _≤_};
 ghost use lib.ListN.{length};
+ghost use Rattle.laws.specs.Overwrite.{overwrite, placed};
+ghost use Rattle.surface.specs.Limits.{mostInAll};
 ghost use Rattle.surface.specs.Triangles.{flatten, shift};
-ghost use Rattle.laws.specs.Overwrite.{placed};
-ghost use Rattle.kinds.specs.Kinds.{permitted, vertexCount, triangleCount, trianglesOf, surfaceOf, writable};
+ghost use Rattle.kinds.specs.Kinds.{permitted, vertexCount, triangleCount, Summarises};
+ghost use Rattle.kinds.specs.Kinds.{trianglesOf, surfaceOf, writable};
 use crate::capsule::Capsule;
 use crate::closed_cylinder::ClosedCylinder;
 use crate::ribbon::Ribbon;
+use crate::summary::Summary;
 use crate::torus::Torus;
 use crate::tube::Tube;
 use surface::Surface;
@@ -21,42 +25,37 @@ pub enum Topology {
 }
 
 impl Topology {
+    fn summary(self) -> Summary
+        ensures { λ r. ⌜ Summarises self r ⌝ }
+    {
+        match self {
+            Topology::Ribbon(k) => k.summary(),
+            Topology::Tube(k) => k.summary(),
+            Topology::Capsule(k) => k.summary(),
+            Topology::Torus(k) => k.summary(),
+            Topology::ClosedCylinder(k) => k.summary(),
+        }
+    }
+
     pub fn is_permitted(self) -> bool
         ensures { λ r. ⌜ r ≡ permitted self ⌝ }
     {
-        match self {
-            Topology::Ribbon(k) => k.is_permitted(),
-            Topology::Tube(k) => k.is_permitted(),
-            Topology::Capsule(k) => k.is_permitted(),
-            Topology::Torus(k) => k.is_permitted(),
-            Topology::ClosedCylinder(k) => k.is_permitted(),
-        }
+        self.summary().permitted
     }
 
     pub fn vertex_count(self) -> u64
         ensures { λ r. ⌜ r ≡ vertexCount self ⌝ }
     {
-        match self {
-            Topology::Ribbon(k) => k.vertex_count(),
-            Topology::Tube(k) => k.vertex_count(),
-            Topology::Capsule(k) => k.vertex_count(),
-            Topology::Torus(k) => k.vertex_count(),
-            Topology::ClosedCylinder(k) => k.vertex_count(),
-        }
+        self.summary().vertices
     }
 
     pub fn triangle_count(self) -> u64
         ensures { λ r. ⌜ r ≡ triangleCount self ⌝ }
     {
-        match self {
-            Topology::Ribbon(k) => k.triangle_count(),
-            Topology::Tube(k) => k.triangle_count(),
-            Topology::Capsule(k) => k.triangle_count(),
-            Topology::Torus(k) => k.triangle_count(),
-            Topology::ClosedCylinder(k) => k.triangle_count(),
-        }
+        self.summary().triangles
     }
 
+    // The grid of quads that the body's list is made of.
     fn surface(self) -> Surface
         requires { ⌜ permitted self ≡ true ⌝ }
         ensures { λ r. ⌜ r ≡ surfaceOf self ⌝ }
@@ -70,11 +69,24 @@ impl Topology {
         }
     }
 
-    // Writes the body's triangles, with its first vertex added to each index, to the front of `out`. Where the body is not permitted,
-    // a vertex would be numbered 2^28 or above, or `out` is too short, it answers false and writes nothing.
+    // Writes the body's triangles, with `first` added to each index, to the front of `out`.
+    pub fn put_triangles(self, first: u32, out: &mut [u32])
+        requires { ⌜ permitted self ≡ true ⌝ }
+        requires { ⌜ first + vertexCount self ≤ mostInAll ⌝ }
+        requires { ⌜ 3 * triangleCount self ≤ length (now out) ⌝ }
+        ensures { λ _. ⌜ now (out .exit)
+            ≡ overwrite 0 (flatten (shift first (trianglesOf self))) (now (out .entry)) ⌝ }
+    {
+        self.surface().put_triangles(first, out);
+    }
+
+    // Writes the triangles as `put_triangles` does and answers true; or answers false and writes
+    // nothing, where the body is not permitted, a vertex would be numbered 2^28 or above, or `out`
+    // is too short.
     pub fn write_triangles(self, first: u32, out: &mut [u32]) -> bool
         ensures { λ r. ⌜ r ≡ writable self first (length (now (out .entry))) ⌝ }
-        ensures { λ r. ⌜ now (out .exit) ≡ placed r (flatten (shift first (trianglesOf self))) (now (out .entry)) ⌝ }
+        ensures { λ r. ⌜ now (out .exit)
+            ≡ placed r (flatten (shift first (trianglesOf self))) (now (out .entry)) ⌝ }
     {
         if self.is_permitted() {
             return self.surface().write_triangles(first, out);

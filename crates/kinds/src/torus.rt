@@ -1,13 +1,15 @@
 ghost use mathlib.Core.Path.{_≡_};
-ghost use Rattle.kinds.specs.Kinds.{permitted, vertexCount, triangleCount, surfaceOf};
+ghost use Rattle.kinds.specs.Kinds.{permitted, vertexCount, triangleCount, Summarises, surfaceOf};
 ghost use Rattle.kinds.specs.declared.topology.Topology.{Topology};
 use crate::limits;
-use surface::Along;
+use crate::limits::Range;
+use crate::summary::Summary;
 use surface::Chain;
+use surface::Ending;
 use surface::Split;
 use surface::Surface;
 
-// A torus with so many divisions round, along a closed curve of so many vertices.
+// A torus, by the divisions round it and the vertices of its closed curve.
 pub struct Torus {
     pub divisions: u16,
     pub vertices: u16,
@@ -25,16 +27,15 @@ impl Torus {
     pub fn is_permitted(self) -> bool
         ensures { λ r. ⌜ r ≡ permitted (Topology.Torus self) ⌝ }
     {
-        limits::is_between(
-            Self::LEAST_DIVISIONS,
-            Self::MOST_DIVISIONS,
-            self.divisions as usize,
-        )
-            && limits::is_between(
-                Self::LEAST_VERTICES,
-                Self::MOST_VERTICES,
-                self.vertices as usize,
-            )
+        let round = Range {
+            least: Self::LEAST_DIVISIONS,
+            most: Self::MOST_DIVISIONS,
+        };
+        let along = Range {
+            least: Self::LEAST_VERTICES,
+            most: Self::MOST_VERTICES,
+        };
+        limits::are_within(self.divisions, round, self.vertices, along)
     }
 
     pub fn vertex_count(self) -> u64
@@ -49,13 +50,23 @@ impl Torus {
         2 * limits::product(self.divisions, self.vertices as u32)
     }
 
+    pub(crate) fn summary(self) -> Summary
+        ensures { λ r. ⌜ Summarises (Topology.Torus self) r ⌝ }
+    {
+        Summary {
+            permitted: self.is_permitted(),
+            vertices: self.vertex_count(),
+            triangles: self.triangle_count(),
+        }
+    }
+
     // The grid of quads that the body's list is made of.
     pub(crate) fn surface(self) -> Surface
         ensures { λ r. ⌜ r ≡ surfaceOf (Topology.Torus self) ⌝ }
     {
         Surface {
             split: Split::Torus,
-            along: Along::Closed,
+            ending: Ending::Closed,
             rows: self.vertices,
             round: Chain::Closed,
             columns: self.divisions,

@@ -1,13 +1,15 @@
 ghost use mathlib.Core.Path.{_≡_};
-ghost use Rattle.kinds.specs.Kinds.{permitted, vertexCount, triangleCount, surfaceOf};
+ghost use Rattle.kinds.specs.Kinds.{permitted, vertexCount, triangleCount, Summarises, surfaceOf};
 ghost use Rattle.kinds.specs.declared.topology.Topology.{Topology};
 use crate::limits;
-use surface::Along;
+use crate::limits::Range;
+use crate::summary::Summary;
 use surface::Chain;
+use surface::Ending;
 use surface::Split;
 use surface::Surface;
 
-// A tube with so many divisions round, along a curve of so many segments.
+// A tube, by the divisions round it and the segments of its curve.
 pub struct Tube {
     pub divisions: u16,
     pub segments: u16,
@@ -25,16 +27,15 @@ impl Tube {
     pub fn is_permitted(self) -> bool
         ensures { λ r. ⌜ r ≡ permitted (Topology.Tube self) ⌝ }
     {
-        limits::is_between(
-            Self::LEAST_DIVISIONS,
-            Self::MOST_DIVISIONS,
-            self.divisions as usize,
-        )
-            && limits::is_between(
-                Self::LEAST_SEGMENTS,
-                Self::MOST_SEGMENTS,
-                self.segments as usize,
-            )
+        let round = Range {
+            least: Self::LEAST_DIVISIONS,
+            most: Self::MOST_DIVISIONS,
+        };
+        let along = Range {
+            least: Self::LEAST_SEGMENTS,
+            most: Self::MOST_SEGMENTS,
+        };
+        limits::are_within(self.divisions, round, self.segments, along)
     }
 
     pub fn vertex_count(self) -> u64
@@ -49,13 +50,23 @@ impl Tube {
         2 * limits::product(self.divisions, self.segments as u32)
     }
 
+    pub(crate) fn summary(self) -> Summary
+        ensures { λ r. ⌜ Summarises (Topology.Tube self) r ⌝ }
+    {
+        Summary {
+            permitted: self.is_permitted(),
+            vertices: self.vertex_count(),
+            triangles: self.triangle_count(),
+        }
+    }
+
     // The grid of quads that the body's list is made of.
     pub(crate) fn surface(self) -> Surface
         ensures { λ r. ⌜ r ≡ surfaceOf (Topology.Tube self) ⌝ }
     {
         Surface {
             split: Split::Tube,
-            along: Along::Open,
+            ending: Ending::Open,
             rows: self.segments,
             round: Chain::Closed,
             columns: self.divisions,

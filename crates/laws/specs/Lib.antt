@@ -1,3 +1,4 @@
+pub mod Parts
 pub mod Overwrite
 pub mod Overlaps
 pub mod Lent

@@ -1,63 +1,67 @@
--- After a clear and any list of additions the file's words are those of the ledger's set. Assumes nothing.
-use mathlib.Core.Path.{_≡_, refl, ap, _∙_}
+-- In buffers that hold a ledger the file's words are those of the ledger's set. Assumes nothing.
+use mathlib.Core.Path.{_≡_, refl, sym, ap, _∙_}
 use mathlib.Core.Bool.{cond}
-use mathlib.Core.List.{List, [], _∷_}
-use Prim.Native.Nat.{ℕ, _*_}
+use mathlib.Core.List.{List, [], _∷_, _++_}
+use Prim.Native.Nat.{ℕ, _*_, _≤_}
 use native.Mathlib.Omega.{arith}
 use lib.Ieee.{Float}
-use lib.ListN.{length, drop, take, length-drop}
+use lib.ListN.{length}
+use Rattle.laws.specs.Parts.{part}
 use Rattle.laws.specs.Overwrite.{overwrite}
+use Rattle.laws.specs.Overlaps.{overwrite-front}
 use Rattle.laws.specs.Lent.{part-written}
-use Rattle.descriptions.specs.Answers.{refused}
-use Rattle.set_table.specs.Room.{entryWords}
-use Rattle.set_table.specs.Table.{totalsIn}
+use Rattle.answers.specs.Answers.{refused}
+use Rattle.set_table.specs.Entries.{entriesIn}
+use Rattle.set_table.specs.Table.{totalsIn, undamaged}
 use Rattle.set_table.specs.Buffers.{Buffers}
+use Rattle.set_table.specs.declared.entries.Entry.{Entry}
 use Rattle.set_table.specs.declared.totals.Totals.{Totals}
-use Rattle.set_file.specs.File.{fileOf, entriesHeld, verticesHeld, trianglesHeld, fileIn, wordIn, fileWordOf}
-use Rattle.ledger.specs.Ledger.{Ledger, bodyCount, vertexSum, triangleSum, totalsOf, entriesOf, setVertices, setTriangles}
-use Rattle.ledger.specs.Calls.{Called}
-use Rattle.ledger.specs.Demand3.{ledgerOf, stainedVertices}
+use Rattle.set_file.specs.File.{fileOf, entriesHeld, floatsHeld, indicesHeld, fileIn, wordIn, fileWordOf}
+use Rattle.ledger.specs.Ledger.{Ledger, bodyCount, vertexSum, triangleSum, totalsOf, entriesOf, setTable, setVertices, setTriangles}
+use Rattle.ledger.specs.Holds.{beginsWith, Holds}
 use Rattle.ledger.specs.File.{setFile, FileOfSet}
 use Rattle.ledger.proofs.Sizes.{length-table, length-set-vertices, length-set-triangles}
-use Rattle.ledger.proofs.ReadBack.{totals-read, not-damaged}
-use Rattle.ledger.proofs.Packing.{packed, Kept, packed-held}
-use Rattle.ledger.proofs.Demand3.{whole-list, kept-whole}
+use Rattle.ledger.proofs.ReadBack.{entries-read, totals-read, not-damaged}
+use Rattle.ledger.proofs.Demand3.{demand-3}
 
--- behind word 0
-drop-head : (n : ℕ) (new old : List ℕ) → drop 1 (overwrite 0 (n ∷ new) old) ≡ overwrite 0 new (drop 1 old)
-drop-head n new [] = refl
-drop-head n new (x ∷ old) = refl
+module _ (s : Buffers) (L : Ledger) (h : Holds s L) where
+  -- a buffer that begins with a list, as one that it was written to
+  written : {A : Type 0} (set held : List A) → held ≡ beginsWith set held → length set ≤ length held → held ≡ overwrite 0 set held
+  written set held begins room = begins ∙ sym (overwrite-front set held room)
 
-module _ (s₀ : Buffers) (L : Ledger) (held : List Float) (kept : Kept s₀ L held) where
-  abbrev s : Buffers
-  s = packed s₀ L held
+  table-written : s .table ≡ overwrite 0 (setTable L) (s .table)
+  table-written = written (setTable L) (s .table) (h .table) (omega (arith, length-table L, h .limits .entries))
+
+  there : {A : Type 0} (set held : List A) (k : ℕ) → held ≡ beginsWith set held → length set ≡ k → k ≤ length held → part 0 k held ≡ set
+  there set held k begins sized room =
+      ap (part 0 k) (written set held begins (omega (arith, sized))) ∙ part-written 0 k set held sized (omega arith)
 
   entries-there : entriesHeld (totalsOf L) s ≡ entriesOf L
-  entries-there =
-      ap (take (entryWords * bodyCount L)) (drop-head (bodyCount L) (entriesOf L) (s₀ .table))
-      ∙ part-written 0 (entryWords * bodyCount L) (entriesOf L) (drop 1 (s₀ .table)) (omega (arith, length-table L)) (omega (arith, kept .fits .entries, length-drop 1 (s₀ .table)))
+  entries-there = ap (λ (T : List ℕ). entriesIn T (bodyCount L)) table-written ∙ entries-read L (s .table) (length (s .vertices)) (length (s .triangles)) (h .limits)
 
-  vertices-there : verticesHeld (totalsOf L) s ≡ setVertices L
-  vertices-there =
-      part-written 0 (3 * vertexSum L) (setVertices L) held (length-set-vertices L (kept .each)) (omega (arith, kept .sized, kept .fits .vertices .1))
+  vertices-there : floatsHeld (totalsOf L) s ≡ setVertices L
+  vertices-there = there (setVertices L) (s .vertices) (3 * vertexSum L) (h .vertices) (length-set-vertices L (h .each)) (h .limits .vertices .1)
 
-  triangles-there : trianglesHeld (totalsOf L) s ≡ setTriangles L
-  triangles-there =
-      part-written 0 (3 * triangleSum L) (setTriangles L) (s₀ .triangles) (length-set-triangles L) (omega (arith, kept .fits .triangles .1))
+  triangles-there : indicesHeld (totalsOf L) s ≡ setTriangles L
+  triangles-there = there (setTriangles L) (s .triangles) (3 * triangleSum L) (h .triangles) (length-set-triangles L) (h .limits .triangles .1)
+
+  told : totalsIn (s .table) ≡ totalsOf L
+  told = ap totalsIn table-written ∙ totals-read L (s .table) (length (s .vertices)) (length (s .triangles)) (h .limits)
 
   file-there : fileIn (totalsIn (s .table)) s ≡ setFile L
-  file-there =
-      ap (λ (t : Totals). fileIn t s) (totals-read L (s₀ .table) (length (s .vertices)) (length (s .triangles)) (packed-held s₀ L held kept))
-      ∙ (λ j. fileOf (totalsOf L) (entries-there j) (vertices-there j) (triangles-there j))
+  file-there = ap (λ (t : Totals). fileIn t s) told ∙ (λ j. fileOf (entries-there j) (vertices-there j) (triangles-there j))
 
   -- any word of it
   words-there : (place : ℕ) → fileWordOf s place ≡ wordIn (setFile L) place
   words-there place =
-      let fine = not-damaged L (s₀ .table) (length (s .vertices)) (length (s .triangles)) (packed-held s₀ L held kept) (kept .each) in
+      let fine =
+      ap (λ (T : List ℕ). undamaged T (length (s .vertices)) (length (s .triangles))) table-written
+      ∙ not-damaged L (s .table) (length (s .vertices)) (length (s .triangles)) (h .limits) (h .each) in
       (λ j. cond (fine j) (wordIn (file-there j) place) (refused 1))
 
 -- THE FILE OF A SET
 pub file-of-set : FileOfSet
-file-of-set s list ok place =
-    ap (λ (r : Called). fileWordOf (r .left) place) (whole-list s ok list)
-    ∙ words-there s (ledgerOf s list) (stainedVertices s list) (kept-whole s ok list) place
+file-of-set = record {
+  held = words-there;
+  clear = λ s list ok. words-there _ _ (demand-3 .clear s list ok .holds);
+}

@@ -1,7 +1,7 @@
 -- A list of additions, call by call: "Each addition gets the buffers as the last call left them, and nobody else writes to them" (demand 3).
 -- Definitions only.
 use mathlib.Core.List.{List, [], _∷_}
-use Rattle.descriptions.specs.Answers.{Answer}
+use Rattle.answers.specs.Answers.{Answer}
 use Rattle.set_table.specs.Buffers.{Buffers, buffers}
 use Rattle.shared_set.specs.Set.{After, cleared, added}
 use Rattle.ledger.specs.Ledger.{Addition}

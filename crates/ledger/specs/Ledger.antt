@@ -1,5 +1,5 @@
--- The ledger that demand 3 compares with: document 01, the last paragraphs of 'Frames and vertices'. It is fed the buffers' lengths and the
--- additions; it knows no table and no call. Definitions only.
+-- The ledger that demand 3 compares with: document 01, the last paragraphs of 'Frames and vertices'.
+-- It is fed the buffers' lengths and the additions; it knows no table and no call. Definitions only.
 use mathlib.Core.Bool.{cond}
 use mathlib.Core.List.{List, [], _∷_, _++_}
 use Prim.Native.Nat.{ℕ, _+_, _*_}
@@ -9,11 +9,13 @@ use lib.ListN.{length}
 use Rattle.laws.specs.Overwrite.{overwrite}
 use Rattle.float32.specs.Zeros.{zeros}
 use Rattle.surface.specs.Triangles.{flatten, shift}
-use Rattle.descriptions.specs.Answers.{Answer, refused, accepted, firstOf}
+use Rattle.answers.specs.Answers.{Answer, refused, accepted, firstOf}
 use Rattle.descriptions.specs.declared.description.Description.{Description}
 use Rattle.set_table.specs.Room.{Lengths}
+use Rattle.set_table.specs.Entries.{allWords}
 use Rattle.set_table.specs.declared.totals.Totals.{Totals}
-use Rattle.shared_set.specs.Bodies.{Body, vertexCountIn, triangleCountIn, bodyAlone}
+use Rattle.set_table.specs.declared.entries.Entry.{Entry}
+use Rattle.shared_set.specs.Bodies.{Body, vertexCountIn, triangleCountIn, bodyAlone, entryOf}
 use Rattle.shared_set.specs.Additions.{additionTests}
 
 -- "a list of bodies, empty after the clear", which grows at its end
@@ -48,33 +50,30 @@ aloneOf a = bodyAlone (a .description) (a .curve)
 
 -- "An addition gets the first refusal, in add's order, whose condition holds .. 1 doesn't arise."
 unfoldable pub replyTo : Lengths → Ledger → Addition → Answer (Unit {0})
-replyTo room L a = firstOf (additionTests room (totalsOf L) (a .description) (a .curve)) tt
+replyTo lent L a = firstOf (additionTests lent (totalsOf L) (a .description) (a .curve)) tt
 
 -- "Refused, it leaves the ledger as it is. Otherwise its body alone goes to the end, with its kind and n."
 abbrev pub entered : Ledger → Addition → Answer (Unit {0}) → Ledger
 entered L a (refused number) = L
 entered L a (accepted u) = then L (aloneOf a)
 
--- the answers to a list of additions, and the ledger behind it
+-- the answers to a list of additions, and the ledger after it
 abbrev pub repliesTo : Lengths → Ledger → List Addition → List (Answer (Unit {0}))
-repliesTo room L [] = []
-repliesTo room L (a ∷ rest) = replyTo room L a ∷ repliesTo room (entered L a (replyTo room L a)) rest
+repliesTo lent L [] = []
+repliesTo lent L (a ∷ rest) = replyTo lent L a ∷ repliesTo lent (entered L a (replyTo lent L a)) rest
 
 abbrev pub final : Lengths → Ledger → List Addition → Ledger
-final room L [] = L
-final room L (a ∷ rest) = final room (entered L a (replyTo room L a)) rest
+final lent L [] = L
+final lent L (a ∷ rest) = final lent (entered L a (replyTo lent L a)) rest
 
--- "The ledger's set is word 0, the number of its bodies; an entry for each, its first vertex and first triangle being the sums of the counts
--- before it"
-abbrev pub entryBehind : Ledger → Body → List ℕ
-entryBehind L b = b .kind ∷ b .divisions ∷ vertexSum L ∷ vertexCountIn b ∷ triangleSum L ∷ triangleCountIn b ∷ []
-
-abbrev pub entriesOf : Ledger → List ℕ
+-- "The ledger's set is word 0, the number of its bodies; an entry for each, its first vertex and
+-- first triangle being the sums of the counts before it"
+abbrev pub entriesOf : Ledger → List Entry
 entriesOf empty = []
-entriesOf (then L b) = entriesOf L ++ entryBehind L b
+entriesOf (then L b) = entriesOf L ++ (entryOf (totalsOf L) b ∷ [])
 
 abbrev pub setTable : Ledger → List ℕ
-setTable L = bodyCount L ∷ entriesOf L
+setTable L = bodyCount L ∷ allWords (entriesOf L)
 
 -- "all their vertices in order"
 abbrev pub setVertices : Ledger → List Float
@@ -82,21 +81,21 @@ setVertices empty = []
 setVertices (then L b) = setVertices L ++ b .vertices
 
 -- "each index with its body's first vertex added": the triangles of a body that goes to the end
-abbrev pub trianglesBehind : Ledger → Body → List ℕ
-trianglesBehind L b = flatten (shift (vertexSum L) (b .triangles))
+abbrev pub lastTriangles : Ledger → Body → List ℕ
+lastTriangles L b = flatten (shift (vertexSum L) (b .triangles))
 
 -- "all their triangles in order"
 abbrev pub setTriangles : Ledger → List ℕ
 setTriangles empty = []
-setTriangles (then L b) = setTriangles L ++ trianglesBehind L b
+setTriangles (then L b) = setTriangles L ++ lastTriangles L b
 
--- What was in the vertex buffer when the list began, "with +0 in the vertex stretch of each 23": the stretch that the vertices would have
--- had is behind the ledger's.
-abbrev pub stainedBy : Ledger → Addition → Answer (Unit {0}) → List Float → List Float
-stainedBy L a (refused number) held =
+-- What the vertex buffer held when the list began, "with +0 in the vertex stretch of each 23": the
+-- stretch that the vertices would have had begins after the ledger's vertices.
+abbrev pub zeroedBy : Ledger → Addition → Answer (Unit {0}) → List Float → List Float
+zeroedBy L a (refused number) held =
     cond (eqb number 23) (overwrite (3 * vertexSum L) (zeros (length (aloneOf a .vertices))) held) held
-stainedBy L a (accepted u) held = held
+zeroedBy L a (accepted u) held = held
 
-abbrev pub stained : Lengths → Ledger → List Addition → List Float → List Float
-stained room L [] held = held
-stained room L (a ∷ rest) held = stained room (entered L a (replyTo room L a)) rest (stainedBy L a (replyTo room L a) held)
+abbrev pub zeroedBy23 : Lengths → Ledger → List Addition → List Float → List Float
+zeroedBy23 lent L [] held = held
+zeroedBy23 lent L (a ∷ rest) held = zeroedBy23 lent (entered L a (replyTo lent L a)) rest (zeroedBy L a (replyTo lent L a) held)

@@ -2,14 +2,14 @@
 ghost use mathlib.Core.Path.{_≡_};
 ghost use lib.ListN.{length};
 use crate::markers;
-use crate::markers::mark_floats;
-use crate::markers::mark_words;
+use crate::markers::mark;
 use crate::placed::compare_bodies;
 use crate::placed::compare_table;
 use crate::tally::Tally;
 use drawn_bodies::Triple;
 use drawn_bodies::load_triple;
-use drawn_bodies::to_words;
+use hex_lines::from_words;
+use hex_lines::to_words;
 
 // The words of a table of 64 bodies.
 const WORDS: usize = 385;
@@ -23,9 +23,10 @@ fn load_marked(triple: Triple, table: &mut [u32], coordinates: &mut [u32], trian
     requires { ⌜ 12288 ≡ length (now coordinates) ⌝ }
 {
     let mut vertices = [0f32; ELEMENTS];
-    mark_words(markers::TABLE, table);
-    mark_floats(markers::VERTICES, &mut vertices);
-    mark_words(markers::TRIANGLES, triangles);
+    mark(markers::TABLE, table);
+    mark(markers::VERTICES, coordinates);
+    mark(markers::TRIANGLES, triangles);
+    from_words(coordinates, &mut vertices);
     load_triple(triple, table, &mut vertices, triangles);
     to_words(&vertices, coordinates);
 }

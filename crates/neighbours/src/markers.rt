@@ -1,6 +1,5 @@
 // What the buffers hold before anything is loaded: each buffer has its own pattern, with another
 // word at each place.
-use float32::from_word;
 use std::num::wrapping_add_u32;
 
 // The first word of each buffer's pattern. No word of a table and no index is as large, and the
@@ -16,18 +15,11 @@ pub(crate) fn marker(start: u32, place: usize) -> u32 {
     wrapping_add_u32(start, (place % 65536) as u32)
 }
 
-pub(crate) fn mark_words(start: u32, words: &mut [u32]) {
+// Fills the buffer with the pattern that begins with `start`.
+pub(crate) fn mark(start: u32, words: &mut [u32]) {
     let mut i: usize = 0;
     while i < words.len() {
         words[i] = marker(start, i);
-        i += 1;
-    }
-}
-
-pub(crate) fn mark_floats(start: u32, floats: &mut [f32]) {
-    let mut i: usize = 0;
-    while i < floats.len() {
-        floats[i] = from_word(marker(start, i));
         i += 1;
     }
 }

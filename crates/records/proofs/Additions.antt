@@ -8,7 +8,7 @@ use borrow.Author.Tests.{le-leb, leb-true}
 use lib.Dec.{leb}
 use lib.ListN.{length, drop, length-drop}
 use Rattle.laws.specs.Conjunction.{both-true}
-use Rattle.descriptions.specs.Answers.{Answer}
+use Rattle.answers.specs.Answers.{Answer}
 use Rattle.set_table.specs.Buffers.{Buffers}
 use Rattle.ledger.specs.Ledger.{Addition}
 use Rattle.ledger.specs.Calls.{Called, addition, answered, additions}

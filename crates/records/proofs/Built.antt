@@ -1,7 +1,7 @@
 -- Demand 3, as one equation of all that a clear and a list of additions give. Assumes nothing.
 use mathlib.Core.Path.{_≡_}
 use mathlib.Core.List.{List}
-use Rattle.descriptions.specs.Answers.{accepted}
+use Rattle.answers.specs.Answers.{accepted}
 use Rattle.set_table.specs.Buffers.{Buffers, buffers, lengthsOf}
 use Rattle.shared_set.specs.Set.{clearAnswer}
 use Rattle.ledger.specs.Ledger.{Addition, empty, repliesTo}

@@ -1,6 +1,6 @@
 -- The buffers that build leaves are those of the calls, so their file is the ledger's. Assumes nothing.
 use mathlib.Core.Path.{sym, ap, _∙_}
-use Rattle.descriptions.specs.Answers.{Answer}
+use Rattle.answers.specs.Answers.{Answer}
 use Rattle.set_file.specs.File.{fileWordOf}
 use Rattle.ledger.specs.Calls.{Called}
 use Rattle.ledger.proofs.File.{file-of-set}

@@ -8,7 +8,7 @@ use native.Mathlib.Omega.{arith}
 use lib.ListN.{length, drop, length-append, length-drop, length-map}
 use lib.Seq.{drop-drop}
 use Rattle.laws.specs.Overwrite.{overwrite, overwrite-none, written-behind}
-use Rattle.descriptions.specs.Answers.{Answer, numberIn}
+use Rattle.answers.specs.Answers.{Answer, numberIn}
 use Rattle.set_table.specs.Buffers.{Buffers, lengthsOf}
 use Rattle.ledger.specs.Ledger.{Addition}
 use Rattle.ledger.specs.Calls.{Called, additions}

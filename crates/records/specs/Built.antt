@@ -4,9 +4,8 @@ use mathlib.Core.List.{List, [], _∷_, map}
 use Prim.Native.Nat.{ℕ}
 use lib.Ieee.{Float}
 use Rattle.laws.specs.Overwrite.{overwrite}
-use Rattle.descriptions.specs.Answers.{Answer, refused, accepted, numberIn}
+use Rattle.answers.specs.Answers.{Answer, refused, accepted, numberIn, outcomeAnswer}
 use Rattle.set_table.specs.Buffers.{Buffers, buffers, lengthsOf}
-use Rattle.shared_set.specs.Answers.{outcomeAnswer}
 use Rattle.shared_set.specs.Set.{clearAnswer}
 use Rattle.ledger.specs.Ledger.{empty, Addition, repliesTo, setTable, setVertices, setTriangles}
 use Rattle.ledger.specs.Calls.{Called}

@@ -5,7 +5,7 @@
 use mathlib.Core.Path.{_≡_}
 use mathlib.Core.List.{List}
 use Prim.Native.Nat.{ℕ}
-use Rattle.descriptions.specs.Answers.{accepted}
+use Rattle.answers.specs.Answers.{accepted}
 use Rattle.set_table.specs.Buffers.{Buffers}
 use Rattle.shared_set.specs.Set.{clearAnswer}
 use Rattle.set_file.specs.File.{wordIn, fileWordOf}

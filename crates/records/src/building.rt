@@ -3,14 +3,14 @@ ghost use Prim.Native.Nat.{_+_, _≤_};
 ghost use lib.ListN.{length};
 ghost use Rattle.laws.specs.Overwrite.{overwrite};
 ghost use Rattle.set_table.specs.Buffers.{buffers};
-ghost use Rattle.shared_set.specs.Answers.{outcomeAnswer};
+ghost use Rattle.answers.specs.Answers.{outcomeAnswer};
 ghost use Rattle.ledger.specs.Calls.{additions};
 ghost use Rattle.records.specs.Records.{additionsIn};
 ghost use Rattle.records.specs.Built.{repliesIn, numbersOf, built, builtOf};
 use crate::first::add_first;
 use crate::head::record_words;
 use crate::reply::Reply;
-use shared_set::Outcome;
+use answers::Outcome;
 
 // Puts the number that a record got, if it got one, behind i others; past the end of `answers` it
 // is left out.

@@ -5,7 +5,7 @@ ghost use lib.Ieee.{binary32, ofBits};
 ghost use lib.ListN.{length};
 ghost use Rattle.laws.specs.Overwrite.{overwrite};
 ghost use Rattle.set_table.specs.Buffers.{buffers};
-ghost use Rattle.shared_set.specs.Answers.{outcomeAnswer};
+ghost use Rattle.answers.specs.Answers.{outcomeAnswer};
 ghost use Rattle.shared_set.specs.Set.{after, added};
 ghost use Rattle.ledger.specs.Calls.{additions};
 ghost use Rattle.records.specs.Records.{firstAddition};
@@ -14,10 +14,10 @@ use crate::head::HEAD_WORDS;
 use crate::head::describe;
 use crate::head::record_words;
 use crate::reply::Reply;
+use answers::Outcome;
 use descriptions::Described;
 use descriptions::Description;
 use float32::from_word;
-use shared_set::Outcome;
 
 // Room for the coordinates of the most vertices that a record may have.
 const ROOM: usize = 1536;

@@ -1,4 +1,5 @@
--- "Proved together", document 01, 'Rulings and samples': the rulings over the definitions, as one list. Assumes nothing.
+-- "Proved together", document 01, 'Rulings and samples': the rulings over the definitions, as one
+-- list. Assumes nothing.
 use mathlib.Core.Path.{_≡_, refl}
 use mathlib.Core.List.{[], _∷_}
 use Prim.Native.Nat.{ℕ, _+_}
@@ -8,7 +9,8 @@ use Rattle.float32.specs.Root.{rootOf, rootOfUnits}
 use Rattle.float32.specs.Scan.{allFinite}
 use Rattle.float32.specs.WholeRoot.{wholeRoot, rootDigits}
 use Rattle.vec3.specs.Points.{differenceOf, dotOf}
-use Rattle.vec3.specs.Turns.{turnOf, directionOf, partOf, inOctant, sineOf, cosineOf, bracket, fraction, minusFraction, whole}
+use Rattle.vec3.specs.Turns.{turnOf, directionOf, partOf, inOctant, sineOf, cosineOf}
+use Rattle.vec3.specs.Turns.{bracket, fraction, minusFraction, whole}
 use Rattle.vec3.specs.declared.turns.Direction.{Direction}
 use Rattle.surface.specs.Triangles.{Triangle, triangle}
 use Rattle.edges.specs.Edges.{edges, unmatched}
@@ -17,7 +19,8 @@ use Rattle.kinds.specs.declared.topology.Topology.{Topology}
 use Rattle.kinds.specs.declared.topology.Topology.the-variants.{Ribbon, Tube, Capsule, Torus}
 use Rattle.curve.specs.Segments.{vertexOf, segmentOf}
 use Rattle.curve.specs.Checks.{segmentRefused, segmentsPermitted, foldsPermitted}
-use Rattle.descriptions.specs.Answers.{Answer, Counts, refused, accepted}
+use Rattle.answers.specs.Answers.{Answer, refused, accepted}
+use Rattle.descriptions.specs.Answers.{Counts}
 use Rattle.descriptions.specs.Refusals.{countsOf, checkedOf, sizePermitted}
 use Rattle.descriptions.specs.declared.description.Description.the-variants as description
 
@@ -68,7 +71,9 @@ AlongAxes long answer = (ribbonTo long 0 0 ≡ answer) × (ribbonTo 0 long 0 ≡
 
 pub record Rulings : Type 0 where
   -- turn(0,4) = (1, +0), turn(1,4) = (−0, 1), turn(2,4) = (−1, −0)
-  pub m1 : IsPair (turnOf 0 4) 0x3F80_0000 0 × IsPair (turnOf 1 4) 0x8000_0000 0x3F80_0000 × IsPair (turnOf 2 4) 0xBF80_0000 0x8000_0000
+  pub m1 : IsPair (turnOf 0 4) 0x3F80_0000 0
+      × IsPair (turnOf 1 4) 0x8000_0000 0x3F80_0000
+      × IsPair (turnOf 2 4) 0xBF80_0000 0x8000_0000
   -- root of bits 40000000 is 3FB504F3, of 00000001 is 1A3504F3
   pub m2 : RootIs 0x4000_0000 0x3FB5_04F3 × RootIs 0x0000_0001 0x1A35_04F3
   -- 8 vertices, 12 triangles, first (0,1,2), last (7,4,6)
@@ -81,12 +86,14 @@ pub record Rulings : Type 0 where
   pub m6 : At tube 0 (triangle 0 4 1) × At tube 1 (triangle 0 3 4) × Unmatched tube 6
   -- 4 unmatched
   pub m7 : Unmatched ribbon 4
-  -- a segment along an axis, of length 2^−20 accepted, half that gives 12; 35800000 is 2^−20, 35000000 half of it
+  -- a segment along an axis, of length 2^−20 accepted, half that gives 12; 35800000 is 2^−20,
+  -- 35000000 half of it
   pub m8 : AlongAxes 0x3580_0000 (accepted ribbon) × AlongAxes 0x3500_0000 (refused 12)
 
 pub rulings : Rulings
-unfolding turnOf directionOf partOf inOctant sineOf cosineOf bracket fraction minusFraction whole rootOf rootOfUnits wholeRoot rootDigits add sub
-    mul div neg le lt ofInt ofBits toBits sizePermitted allFinite segmentsPermitted segmentRefused foldsPermitted segmentOf vertexOf differenceOf dotOf
+unfolding turnOf directionOf partOf inOctant sineOf cosineOf bracket fraction minusFraction whole
+    rootOf rootOfUnits wholeRoot rootDigits add sub mul div neg le lt ofInt ofBits toBits
+    sizePermitted allFinite segmentsPermitted segmentRefused foldsPermitted segmentOf vertexOf differenceOf dotOf
 rulings = record {
   m1 = ((refl, refl), (refl, refl), (refl, refl));
   m2 = (refl, refl);

@@ -3,12 +3,13 @@ use mathlib.Core.List.{List, [], _∷_, _++_, map}
 use Prim.Native.Nat.{ℕ, _+_, _*_}
 use lib.Dec.{leb}
 use lib.Ieee.{Float, binary32, toBits}
-use lib.ListN.{length, getD, take, drop}
-use Rattle.descriptions.specs.Answers.{Answer, Test, firstOf}
-use Rattle.descriptions.specs.Refusals.{test}
-use Rattle.set_table.specs.Room.{entryWords}
-use Rattle.set_table.specs.Table.{totalsIn, undamaged}
+use lib.ListN.{length, getD}
+use Rattle.laws.specs.Parts.{part}
+use Rattle.answers.specs.Answers.{Answer, Test, firstOf, test}
+use Rattle.set_table.specs.Entries.{entriesIn, allWords, entryTotals}
+use Rattle.set_table.specs.Table.{totalsIn, tableTests}
 use Rattle.set_table.specs.Buffers.{Buffers}
+use Rattle.set_table.specs.declared.entries.Entry.{Entry}
 use Rattle.set_table.specs.declared.totals.Totals.{Totals}
 
 abbrev pub edition : ℕ
@@ -18,26 +19,28 @@ edition = 1
 abbrev pub fileHead : Totals → List ℕ
 fileHead t = edition ∷ t .bodies ∷ t .vertices ∷ t .triangles ∷ []
 
--- "the entries, all vertex bits, all triangles"; the bits of a NaN, which a lent buffer may hold, are those of the toolchain's IEEE model
-abbrev pub fileBehind : List ℕ → List Float → List ℕ → List ℕ
-fileBehind entries vertices triangles = entries ++ (map (toBits binary32) vertices ++ triangles)
+-- "the entries, all vertex bits, all triangles"; the bits of a NaN, which a lent buffer may hold,
+-- are those of the toolchain's IEEE model
+abbrev pub fileBody : List Entry → List Float → List ℕ → List ℕ
+fileBody entries floats indices = allWords entries ++ (map (toBits binary32) floats ++ indices)
 
-abbrev pub fileOf : Totals → List ℕ → List Float → List ℕ → List ℕ
-fileOf t entries vertices triangles = fileHead t ++ fileBehind entries vertices triangles
+-- the file of a set that has these entries, floats and indices
+abbrev pub fileOf : List Entry → List Float → List ℕ → List ℕ
+fileOf entries floats indices = fileHead (entryTotals entries) ++ fileBody entries floats indices
 
 -- what the buffers hold of a set of these totals
-abbrev pub entriesHeld : Totals → Buffers → List ℕ
-entriesHeld t s = take (entryWords * t .bodies) (drop 1 (s .table))
+abbrev pub entriesHeld : Totals → Buffers → List Entry
+entriesHeld t s = entriesIn (s .table) (t .bodies)
 
-abbrev pub verticesHeld : Totals → Buffers → List Float
-verticesHeld t s = take (3 * t .vertices) (s .vertices)
+abbrev pub floatsHeld : Totals → Buffers → List Float
+floatsHeld t s = part 0 (3 * t .vertices) (s .vertices)
 
-abbrev pub trianglesHeld : Totals → Buffers → List ℕ
-trianglesHeld t s = take (3 * t .triangles) (s .triangles)
+abbrev pub indicesHeld : Totals → Buffers → List ℕ
+indicesHeld t s = part 0 (3 * t .triangles) (s .triangles)
 
 -- the file of the set in the buffers
 abbrev pub fileIn : Totals → Buffers → List ℕ
-fileIn t s = fileOf t (entriesHeld t s) (verticesHeld t s) (trianglesHeld t s)
+fileIn t s = fileOf (entriesHeld t s) (floatsHeld t s) (indicesHeld t s)
 
 -- 5: not "file word at or past the end"
 abbrev pub endTests : List ℕ → ℕ → List Test
@@ -50,4 +53,4 @@ wordIn file place = firstOf (endTests file place) (getD file place 0)
 abbrev pub fileWordOf : Buffers → ℕ → Answer ℕ
 fileWordOf s place =
     let file = fileIn (totalsIn (s .table)) s in
-    firstOf (test 1 (undamaged (s .table) (length (s .vertices)) (length (s .triangles))) ∷ endTests file place) (getD file place 0)
+    firstOf (tableTests (s .table) (length (s .vertices)) (length (s .triangles)) ++ endTests file place) (getD file place 0)

@@ -2,21 +2,22 @@ ghost use mathlib.Core.Path.{_≡_};
 ghost use Prim.Native.Nat.{_+_, _*_, _≤_, _<_};
 ghost use lib.ListN.{length, getD};
 ghost use Rattle.surface.specs.Limits.{mostInAll};
-ghost use Rattle.set_table.specs.Room.{mostBodies, tableWords};
+ghost use Rattle.set_table.specs.Entries.{tableWords};
+ghost use Rattle.set_table.specs.Room.{mostBodies};
 ghost use Rattle.set_table.specs.Buffers.{buffers};
 ghost use Rattle.set_file.specs.Answers.{wordAnswer};
-ghost use Rattle.set_file.specs.File.{fileHead, fileBehind, entriesHeld, verticesHeld, trianglesHeld, wordIn, fileWordOf};
-use crate::answers::FileWord;
+ghost use Rattle.set_file.specs.File.{fileHead, fileBody, entriesHeld, floatsHeld, indicesHeld, wordIn, fileWordOf};
+use crate::word::FileWord;
+use answers::Refusal;
 use set_table::ENTRY_WORDS;
 use set_table::Reading;
 use set_table::Totals;
-use set_table::Why;
 use set_table::read;
 
 // The edition of the file.
 const EDITION: u32 = 1;
 
-// How many words the file has in front of the entries.
+// How many words the file has before the entries.
 const FILE_HEAD: usize = 4;
 
 // Word `place` of the file's head.
@@ -34,8 +35,8 @@ fn head_word(totals: Totals, place: usize) -> u32
     }
 }
 
-// A word behind the head: an entry's, then a vertex's, then a triangle's.
-fn word_behind(
+// Word `place` of what follows the head: the entries, then the vertices, then the triangles.
+fn body_word(
     totals: Totals,
     table: &[u32],
     vertices: &[f32],
@@ -47,7 +48,7 @@ fn word_behind(
     requires { ⌜ 3 * totals .vertices ≤ length (now vertices) ⌝ }
     requires { ⌜ 3 * totals .triangles ≤ length (now triangles) ⌝ }
     ensures { λ r. let s = buffers (now (table .entry)) (now (vertices .entry)) (now (triangles .entry)) in
-        ⌜ wordAnswer r ≡ wordIn (fileBehind (entriesHeld totals s) (verticesHeld totals s) (trianglesHeld totals s)) place ⌝ }
+        ⌜ wordAnswer r ≡ wordIn (fileBody (entriesHeld totals s) (floatsHeld totals s) (indicesHeld totals s)) place ⌝ }
 {
     let entries = ENTRY_WORDS * totals.bodies as usize;
     if place < entries {
@@ -62,20 +63,21 @@ fn word_behind(
     if index < 3 * totals.triangles {
         return FileWord::Word(triangles[index]);
     }
-    FileWord::Refused(Why::PastEnd)
+    FileWord::Refused(Refusal::PastEnd)
 }
 
-// Any word of the file of the set, or 1, or 5 at its end and past it.
+// Word `place` of the file of the set. A damaged table (1) and a place at the end or past it (5)
+// are refused.
 pub fn file_word(table: &[u32], vertices: &[f32], triangles: &[u32], place: usize) -> FileWord
     ensures { λ r. ⌜ wordAnswer r ≡ fileWordOf (buffers (now (table .entry)) (now (vertices .entry)) (now (triangles .entry))) place ⌝ }
 {
     match read(table, vertices.len(), triangles.len()) {
-        Reading::Damaged => FileWord::Refused(Why::DamagedTable),
+        Reading::Damaged => FileWord::Refused(Refusal::DamagedTable),
         Reading::Sound(totals) => {
             if place < FILE_HEAD {
                 return FileWord::Word(head_word(totals, place));
             }
-            word_behind(totals, table, vertices, triangles, place - FILE_HEAD)
+            body_word(totals, table, vertices, triangles, place - FILE_HEAD)
         }
     }
 }

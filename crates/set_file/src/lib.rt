@@ -1,6 +1,6 @@
 // The file of a shared set, word by word.
-mod answers;
 mod file;
+mod word;
 
-pub use answers::FileWord;
 pub use file::file_word;
+pub use word::FileWord;

@@ -1,2 +1,3 @@
+pub mod Words
 pub mod Tables
 pub mod Fitting

@@ -1,3 +1,4 @@
+pub mod Entries
 pub mod Room
 pub mod Buffers
 pub mod Answers

@@ -5,12 +5,12 @@ use crate::entries::ENTRY_WORDS;
 use crate::entries::Entry;
 use crate::entries::MOST_BODIES;
 use crate::entries::read_entry;
-use crate::room::is_total_permitted;
 use crate::totals::Reading;
 use crate::totals::Totals;
 use descriptions::LAST_KIND;
 
-// Whether an entry can stand behind bodies of so many vertices and triangles.
+// Whether an entry has a known kind and may follow bodies that have `vertices` vertices and
+// `triangles` triangles.
 fn is_entry_sound(entry: Entry, vertices: usize, triangles: usize) -> bool
     ensures { λ r. ⌜ r ≡ entrySound entry vertices triangles ⌝ }
 {
@@ -31,7 +31,8 @@ fn is_head_sound(table: &[u32]) -> bool
     bodies <= MOST_BODIES && 1 + ENTRY_WORDS * bodies as usize <= table.len()
 }
 
-// What the table says, or that it is damaged; the other two buffers have so many elements. 64 counts of 32 bits do not wrap a usize.
+// Reads what the table says, or finds it damaged (1). `vertices` and `triangles` are the lengths of
+// the other two buffers. The sums of 64 counts of 32 bits do not wrap a usize.
 pub fn read(table: &[u32], vertices: usize, triangles: usize) -> Reading
     ensures { λ r. ⌜ readingAnswer r ≡ readingOf (now (table .entry)) vertices triangles ⌝ }
 {
@@ -51,7 +52,7 @@ pub fn read(table: &[u32], vertices: usize, triangles: usize) -> Reading
         t += e.triangles as usize;
         j += 1;
     }
-    if is_total_permitted(v, vertices) && is_total_permitted(t, triangles) {
+    if surface::fits(v as u64, vertices) && surface::fits(t as u64, triangles) {
         return Reading::Sound(Totals {
             bodies,
             vertices: v,

@@ -1,11 +1,12 @@
-// What a table's entries sum up to: its bodies, and their vertices and triangles.
+// What the entries of a table add up to: how many bodies there are, and how many vertices and
+// triangles they have together.
 pub struct Totals {
     pub bodies: u32,
     pub vertices: usize,
     pub triangles: usize,
 }
 
-// What a table says, if it is not damaged.
+// What the reading of a table finds.
 pub enum Reading {
     Damaged,
     Sound(Totals),

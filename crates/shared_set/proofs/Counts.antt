@@ -1,11 +1,9 @@
 -- A body of a permitted shape has as many vertices and triangles as the counts promise. Assumes nothing.
 use mathlib.Core.Path.{_≡_, ap, _∙_}
 use mathlib.Core.List.{List}
-use Prim.Native.Nat.{ℕ, _+_, _*_, _/_, _≤_}
+use Prim.Native.Nat.{ℕ, _*_, _/_}
 use native.Mathlib.Omega.{arith}
 use lib.Ieee.{Float}
-use lib.ListN.{length, drop, length-drop}
-use lib.Seq.{length-take-le}
 use Rattle.kinds.specs.Kinds.{vertexCount, triangleCount}
 use Rattle.kinds.proofs.Claims.{permitted-claims}
 use Rattle.curve.specs.Segments.{verticesIn}
@@ -14,16 +12,10 @@ use Rattle.descriptions.specs.Refusals.{ShapePermitted}
 use Rattle.descriptions.specs.declared.description.Description.{Description}
 use Rattle.descriptions.proofs.Shapes.{shape-permitted}
 use Rattle.bodies.proofs.Lengths.{length-vertices}
-use Rattle.shared_set.specs.Bodies.{vertexCountIn, triangleCountIn, bodyAlone, stretchOf}
+use Rattle.shared_set.specs.Bodies.{vertexCountIn, triangleCountIn, bodyAlone}
 
 thirds : (n : ℕ) → 3 * n / 3 ≡ n
 thirds n = omega arith
-
--- as many as its stretch is long, where the buffer has them
-pub stretch-counted : (first k : ℕ) (vertices : List Float) → 3 * (first + k) ≤ length vertices → length (stretchOf first k vertices) / 3 ≡ k
-stretch-counted first k vertices h =
-    let rest : 3 * k ≤ length (drop (3 * first) vertices) = omega (arith, length-drop (3 * first) vertices) in
-    ap (λ (n : ℕ). n / 3) (length-take-le (3 * k) (drop (3 * first) vertices) rest) ∙ thirds k
 
 module _ (d : Description) (c : List Float) (h : ShapePermitted d (verticesIn c)) where
   pub vertices-counted : vertexCountIn (bodyAlone d c) ≡ vertexCount (topologyOf d (verticesIn c))

@@ -1,4 +1,3 @@
 pub mod Bodies
 pub mod Additions
-pub mod Answers
 pub mod Set

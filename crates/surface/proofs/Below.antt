@@ -1,4 +1,5 @@
--- Lists whose numbers are below a bound: those of blocks, and of rows whose rings are. Assumes nothing.
+-- Lists whose numbers are below a bound: those of blocks, and of rows whose rings are.
+-- Assumes nothing.
 use mathlib.Core.Path.{sym, subst}
 use mathlib.Core.List.{List, [], _∷_, _++_}
 use Prim.Native.Nat.{ℕ, zero, suc, _+_, _≤_, _<_}

@@ -17,7 +17,8 @@ pub points-bounds : (chain : Chain) (n : ℕ) → (n ≤ pointsOf chain n) × (p
 points-bounds Open n = (omega arith, omega arith)
 points-bounds Closed n = (omega arith, omega arith)
 
--- steps to the next number are no more than all; and where there is a step, there is a point more than such steps
+-- steps to the next number are no more than all steps; and where there is a step, there is a point
+-- more than steps to the next number
 pub straight-bounds : (chain : Chain) (n : ℕ) → (straightOf chain n ≤ n) × (0 < n → straightOf chain n + 1 ≤ pointsOf chain n)
 straight-bounds Open n = (omega arith, λ h. omega arith)
 straight-bounds Closed n = (omega arith, λ h. omega arith)

@@ -26,7 +26,7 @@ pub blocks-written : (at : ℕ) (f : ℕ → List Triangle) (t₀ : List ℕ) {t
 blocks-written at f t₀ {t} {i} {n} so e =
     all-written at (numbers f) t₀ so e ∙ ap (λ (l : List ℕ). overwrite at l t₀) (sym (flatten-blocks n f))
 
--- three lists of triangles, each written behind the last, are one
+-- three lists of triangles, each written after the last, are one
 pub three-written : (a b c : List Triangle) (t₀ : List ℕ) {t₁ t₂ t₃ : List ℕ} {low high : ℕ}
     → t₁ ≡ overwrite 0 (flatten a) t₀ → t₂ ≡ overwrite low (flatten b) t₁ → t₃ ≡ overwrite high (flatten c) t₂
     → low ≡ length (flatten a) → high ≡ low + length (flatten b) → t₃ ≡ overwrite 0 (flatten (a ++ (b ++ c))) t₀

@@ -1,4 +1,5 @@
--- A grid is the rows whose rings follow one another and, where it is closed, a last one that leads back. Assumes nothing.
+-- A grid is the rows whose rings follow one another and, where it is closed, a last row that leads
+-- back to the first ring. Assumes nothing.
 use mathlib.Core.Path.{_≡_, sym, ap, _∙_}
 use mathlib.Core.List.{_++_}
 use Prim.Native.Nat.{ℕ, _+_, _*_, _≤_, _<_}

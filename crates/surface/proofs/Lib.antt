@@ -6,4 +6,5 @@ pub mod Copies
 pub mod Rows
 pub mod LastRow
 pub mod Counts
+pub mod Totals
 pub mod Room

@@ -1,4 +1,5 @@
--- What the writers' turns and calls write: quads, rows, triangles of a cap, caps and grids, and how many numbers each has. Assumes nothing.
+-- What each turn and each call of the writers writes: quads, rows, triangles of a cap, caps and
+-- grids, and how many numbers each has. Assumes nothing.
 use mathlib.Core.Path.{_≡_, refl, ap, _∙_}
 use mathlib.Core.Bool.{true, false}
 use mathlib.Core.List.{List, [], _∷_, _++_}
@@ -99,11 +100,11 @@ module _ (s : Surface) (first : ℕ) where
   abbrev pub topOf : ℕ → ℕ → List Triangle
   topOf to-pole to-rim = capTriangles Top (s .columns) (first + 1 + to-pole) (first + 1 + to-rim)
 
-  pub capped-parts : isCapped (s .along) ≡ true
+  pub capped-parts : isCapped (s .ending) ≡ true
       → surfaceTriangles s first ≡ bottomOf ++ (surfaceGrid s (first + 1) ++ topOf (gridSize s) (s .rows * ringSize s))
   unfolding surfaceTriangles
   capped-parts capped = rw capped
 
-  pub bare-parts : isCapped (s .along) ≡ false → surfaceTriangles s first ≡ surfaceGrid s first
+  pub bare-parts : isCapped (s .ending) ≡ false → surfaceTriangles s first ≡ surfaceGrid s first
   unfolding surfaceTriangles
   bare-parts bare = rw bare

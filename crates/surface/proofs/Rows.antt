@@ -9,10 +9,11 @@ use Rattle.laws.specs.Overwrite.{overwrite}
 use Rattle.laws.specs.Overlaps.{overwrite-cover}
 use Rattle.laws.specs.Blocks.{blocks, blocks-cong, map-blocks}
 use Rattle.laws.specs.Lent.{part-written}
+use Rattle.laws.specs.Parts.{part}
 use Rattle.surface.specs.Triangles.{flatten}
 use Rattle.surface.specs.Quads.{quadOf}
 use Rattle.surface.specs.Grid.{afterOf, pointsOf, rowTriangles, gridTriangles}
-use Rattle.surface.specs.Raise.{stretch, raised, copyOf, Below}
+use Rattle.surface.specs.Raise.{raised, copyOf, Below}
 use Rattle.surface.specs.declared.quads.Split.{Split}
 use Rattle.surface.specs.declared.quads.Split.the-variants.{Capped, Torus, Tube, Ribbon}
 use Rattle.surface.specs.declared.grid.Chain.{Chain}
@@ -58,9 +59,9 @@ module _ (split : Split) (round : Chain) (n : ℕ) where
       subst (λ (r : List ℕ). Below bound r) (sym (copied-row m base g)) (below-row split round n bound (base + g * w) (base + (g + 1) * w) (omega arith) (omega arith))
 
   -- the first row, read back where it was written
-  pub first-read : (at base : ℕ) (t₀ : List ℕ) {t : List ℕ} → t ≡ overwrite at (firstRow base) t₀ → at + n * 6 ≤ length t₀ → stretch at (n * 6) t ≡ firstRow base
+  pub first-read : (at base : ℕ) (t₀ : List ℕ) {t : List ℕ} → t ≡ overwrite at (firstRow base) t₀ → at + n * 6 ≤ length t₀ → part at (n * 6) t ≡ firstRow base
   first-read at base t₀ written h =
-      ap (λ (r : List ℕ). stretch at (n * 6) r) written
+      ap (λ (r : List ℕ). part at (n * 6) r) written
       ∙ part-written at (n * 6) (firstRow base) t₀ (length-row split round n base (base + pointsOf round n)) h
 
   -- the first row and its copies are the rows

@@ -14,11 +14,12 @@ abbrev pub capTriangle : End → ℕ → ℕ → ℕ → Triangle
 capTriangle Bottom pole here next = triangle pole here next
 capTriangle Top pole here next = triangle pole next here
 
--- The cap between a pole and a ring of n vertices, the first of which is rim.
+-- The cap between a pole and a ring of n vertices, whose first is rim.
 abbrev pub capTriangles : End → ℕ → ℕ → ℕ → List Triangle
 capTriangles end n pole rim = blocks n (λ i. capTriangle end pole (rim + i) (rim + afterOf Closed n i) ∷ [])
 
--- What a cap's writer asks: its vertices are numbered below `mostInAll`, and its place lies within the buffer.
+-- What a cap's writer asks: its vertices are numbered below `mostInAll`, and its place lies within
+-- the buffer.
 pub record CapFits (n rim at room : ℕ) : Type 0 where
   pub rim-numbers : rim + n ≤ mostInAll
   pub within : at + n * 3 ≤ room

@@ -1,5 +1,6 @@
--- A grid of quads: the one device behind the lists of document 01, 'Triangle lists'. What is not quoted stands for the words that all kinds
--- share there: rings, quads between ring g and ring g + 1, vertex i of ring g. Definitions only.
+-- A grid of quads, of which all lists of document 01, 'Triangle lists', are made. What is not
+-- quoted stands for the words that all kinds share there: rings, quads between ring g and
+-- ring g + 1, vertex i of ring g. Definitions only.
 use mathlib.Core.List.{List}
 use Prim.Native.Nat.{ℕ, _+_, _-_, _*_, _%_, _≤_, _<_}
 use Rattle.laws.specs.Blocks.{blocks}
@@ -36,13 +37,15 @@ gridTriangles split along m round n base =
     let w = pointsOf round n in
     blocks m (λ g. rowTriangles split round n (base + g * w) (base + afterOf along m g * w))
 
--- What a row's writer asks: its vertices are numbered below `mostInAll`, and its place lies within the buffer.
+-- What a row's writer asks: its vertices are numbered below `mostInAll`, and its place lies within
+-- the buffer.
 pub record RowFits (round : Chain) (n low high at room : ℕ) : Type 0 where
   pub low-numbers : low + pointsOf round n ≤ mostInAll
   pub high-numbers : high + pointsOf round n ≤ mostInAll
   pub within : at + n * 6 ≤ room
 
--- What the writer of m rows asks whose rings follow one another; where there is no row, there need be no ring.
+-- What the writer of m rows asks whose rings follow one another. Where there is no row, there need
+-- be no ring.
 pub record RowsFit (round : Chain) (m n base at room : ℕ) : Type 0 where
   pub numbers : 0 < m → base + (m + 1) * pointsOf round n ≤ mostInAll
   pub within : at + m * n * 6 ≤ room

@@ -1,12 +1,9 @@
--- Numbers of a buffer copied within it, with the same added to each. Definitions only.
+-- Numbers of a buffer copied within it, with the same number added to each. Definitions only.
 use mathlib.Core.List.{List, [], _∷_, map}
 use Prim.Native.Nat.{ℕ, _+_, _-_, _*_, _≤_, _<_}
-use lib.ListN.{length, take, drop}
+use lib.ListN.{length}
+use Rattle.laws.specs.Parts.{part}
 use Rattle.surface.specs.Limits.{mostInAll}
-
--- the `size` numbers from a place on
-abbrev pub stretch : ℕ → ℕ → List ℕ → List ℕ
-stretch from size l = take size (drop from l)
 
 abbrev pub raised : ℕ → List ℕ → List ℕ
 raised rise l = map (λ n. rise + n) l
@@ -20,15 +17,16 @@ abbrev pub Below : ℕ → List ℕ → Type 0
 Below bound [] = Unit {0}
 Below bound (n ∷ l) = (n < bound) × Below bound l
 
--- What one copy asks: it is made of what lies before it, has room, and its numbers are below `mostInAll`.
+-- What one copy asks: it is made of what lies before it, has room, and its numbers are below
+-- `mostInAll`.
 pub record RaiseFits (at size rise : ℕ) (l : List ℕ) : Type 0 where
   pub before : size ≤ at
   pub within : at + size ≤ length l
-  pub numbers : Below mostInAll (raised rise (stretch (at - size) size l))
+  pub numbers : Below mostInAll (raised rise (part (at - size) size l))
 
--- What `times` copies, one behind the other, ask.
+-- What `times` copies, each right after the last, ask.
 pub record RepeatFits (at size times rise : ℕ) (l : List ℕ) : Type 0 where
   pub some : 0 < times
   pub within : at + times * size ≤ length l
   pub rises : times * rise ≤ mostInAll
-  pub numbers : (k : ℕ) → k < times → Below mostInAll (copyOf rise (stretch at size l) k)
+  pub numbers : (k : ℕ) → k < times → Below mostInAll (copyOf rise (part at size l) k)

@@ -1,4 +1,5 @@
--- Triangles and the numbers that a buffer holds of them. Document 01, 'Triangle lists' and 'The shared set'. Definitions only.
+-- Triangles and the numbers that a buffer holds of them. Document 01, 'Triangle lists' and 'The
+-- shared set'. Definitions only.
 use mathlib.Core.List.{List, [], _∷_, _++_}
 use Prim.Native.Nat.{ℕ, _+_}
 use lib.ListN.{getD}
@@ -7,7 +8,8 @@ use lib.ListN.{getD}
 pub data Triangle : Type 0 where
   triangle : ℕ → ℕ → ℕ → Triangle
 
--- "Vertices are three f32 each, triangles three u32": the numbers of a list of triangles, one after the other.
+-- "Vertices are three f32 each, triangles three u32": the numbers of a list of triangles, one
+-- after the other.
 abbrev pub flatten : List Triangle → List ℕ
 flatten [] = []
 flatten (triangle a b c ∷ ts) = a ∷ b ∷ c ∷ flatten ts

@@ -24,7 +24,8 @@ pub fn cap_triangle(end: End, pole: u32, here: u32, next: u32) -> [u32; 3]
     }
 }
 
-// The cap between a pole and a ring of n vertices, the first of which is rim, from place `at` on.
+// Writes the cap between `pole` and a ring of `n` vertices, whose first is `rim`, from place `at`
+// on.
 pub(crate) fn write_cap(out: &mut [u32], at: usize, end: End, n: u32, pole: u32, rim: u32)
     requires { ⌜ CapFits n rim at (length (now out)) ⌝ }
     ensures { λ _. ⌜ now (out .exit) ≡ overwrite at (flatten (capTriangles end n pole rim)) (now (out .entry)) ⌝ }

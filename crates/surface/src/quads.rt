@@ -5,7 +5,8 @@ ghost use Rattle.laws.specs.Overwrite.{overwrite};
 ghost use Rattle.surface.specs.Triangles.{rows, rowOf, rowsOf};
 ghost use Rattle.surface.specs.Quads.{quadOf};
 
-// How a quad is cut into its two triangles, named after the bodies whose lists have it; capsule and closed cylinder are the capped ones.
+// How a quad is cut into its two triangles, named after the bodies whose lists have it. Capsule
+// and closed cylinder are the capped ones.
 pub enum Split {
     Capped,
     Torus,
@@ -13,7 +14,8 @@ pub enum Split {
     Ribbon,
 }
 
-// The two triangles of a quad with corners a = (g, i), b = (g, i + 1), d = (g + 1, i) and e = (g + 1, i + 1).
+// The two triangles of a quad with corners a = (g, i), b = (g, i + 1), d = (g + 1, i) and
+// e = (g + 1, i + 1).
 pub fn quad(split: Split, a: u32, b: u32, d: u32, e: u32) -> [[u32; 3]; 2]
     ensures { λ r. ⌜ r ≡ rows (quadOf split a b d e) ⌝ }
 {

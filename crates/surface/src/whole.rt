@@ -1,35 +1,37 @@
 ghost use mathlib.Core.Path.{_≡_};
 ghost use mathlib.Core.Bool.{true};
+ghost use Prim.Native.Nat.{_+_, _*_, _≤_};
 ghost use lib.ListN.{length};
 ghost use Rattle.laws.specs.Overwrite.{overwrite, placed};
+ghost use Rattle.surface.specs.Limits.{mostInAll};
 ghost use Rattle.surface.specs.Triangles.{flatten};
-ghost use Rattle.surface.specs.Whole.{chainOf, isCapped, ringCount, ringSize, surfaceVertexCount, surfaceTriangleCount, surfaceTriangles, fits};
+ghost use Rattle.surface.specs.Whole.{chainOf, isCapped, ringCount, ringSize, placeable};
+ghost use Rattle.surface.specs.Whole.{surfaceVertexCount, surfaceTriangleCount, surfaceTriangles};
 use crate::caps::End;
 use crate::caps::write_cap;
 use crate::grid::Chain;
 use crate::grid::points;
 use crate::grid::write_grid;
+use crate::limits::MOST_IN_ALL;
+use crate::limits::fits;
 use crate::quads::Split;
 
-// The most vertices, and the most triangles, that a set may have: `mostInAll` in specs/Limits.antt.
-pub const MOST_IN_ALL: usize = 1 << 28;
-
 // How a grid of quads ends along the curve: in two open rims, in itself, or in two caps.
-pub enum Along {
+pub enum Ending {
     Open,
     Closed,
     Capped,
 }
 
-impl Along {
+impl Ending {
     // The chain of the rings.
     pub(crate) fn chain(self) -> Chain
         ensures { λ r. ⌜ r ≡ chainOf self ⌝ }
     {
         match self {
-            Along::Open => Chain::Open,
-            Along::Closed => Chain::Closed,
-            Along::Capped => Chain::Open,
+            Ending::Open => Chain::Open,
+            Ending::Closed => Chain::Closed,
+            Ending::Capped => Chain::Open,
         }
     }
 
@@ -37,9 +39,9 @@ impl Along {
         ensures { λ r. ⌜ r ≡ isCapped self ⌝ }
     {
         match self {
-            Along::Open => false,
-            Along::Closed => false,
-            Along::Capped => true,
+            Ending::Open => false,
+            Ending::Closed => false,
+            Ending::Capped => true,
         }
     }
 }
@@ -47,7 +49,7 @@ impl Along {
 // A grid of `rows` by `columns` quads, between two caps where it is capped.
 pub struct Surface {
     pub split: Split,
-    pub along: Along,
+    pub ending: Ending,
     pub rows: u16,
     pub round: Chain,
     pub columns: u16,
@@ -58,8 +60,8 @@ impl Surface {
     fn ring_count(self) -> u32
         ensures { λ r. ⌜ r ≡ ringCount self ⌝ }
     {
-        let along = self.along;
-        points(along.chain(), self.rows)
+        let ending = self.ending;
+        points(ending.chain(), self.rows)
     }
 
     // How many vertices a ring has.
@@ -74,8 +76,8 @@ impl Surface {
         ensures { λ r. ⌜ r ≡ surfaceVertexCount self ⌝ }
     {
         let grid = self.ring_count() as u64 * self.ring_size() as u64;
-        let along = self.along;
-        if along.is_capped() {
+        let ending = self.ending;
+        if ending.is_capped() {
             return grid + 2;
         }
         grid
@@ -86,8 +88,8 @@ impl Surface {
     {
         let columns = self.columns as u64;
         let grid = 2 * (self.rows as u64 * columns);
-        let along = self.along;
-        if along.is_capped() {
+        let ending = self.ending;
+        if ending.is_capped() {
             return grid + 2 * columns;
         }
         grid
@@ -95,14 +97,16 @@ impl Surface {
 
     // Whether every vertex is numbered below `MOST_IN_ALL` and the triangles have room.
     fn is_placeable(self, first: u32, room: usize) -> bool
-        ensures { λ r. ⌜ r ≡ fits self first room ⌝ }
+        ensures { λ r. ⌜ r ≡ placeable self first room ⌝ }
     {
         first as u64 + self.vertex_count() <= MOST_IN_ALL as u64
-            && 3 * self.triangle_count() <= room as u64
+            && fits(self.triangle_count(), room)
     }
 
-    fn write_capped(self, first: u32, out: &mut [u32])
-        requires { ⌜ (isCapped (self .along) ≡ true) × (fits self first (length (now out)) ≡ true) ⌝ }
+    fn put_capped(self, first: u32, out: &mut [u32])
+        requires { ⌜ isCapped (self .ending) ≡ true ⌝ }
+        requires { ⌜ first + surfaceVertexCount self ≤ mostInAll ⌝ }
+        requires { ⌜ 3 * surfaceTriangleCount self ≤ length (now out) ⌝ }
         ensures { λ _. ⌜ now (out .exit) ≡ overwrite 0 (flatten (surfaceTriangles self first)) (now (out .entry)) ⌝ }
     {
         let rows = self.rows as u32;
@@ -118,20 +122,30 @@ impl Surface {
         write_cap(out, high, End::Top, columns, pole, rim);
     }
 
-    // Writes the triangles of the surface whose first vertex is `first` to the front of `out`, or nothing where they cannot be placed.
-    pub fn write_triangles(self, first: u32, out: &mut [u32]) -> bool
-        ensures { λ r. ⌜ r ≡ fits self first (length (now (out .entry))) ⌝ }
-        ensures { λ r. ⌜ now (out .exit) ≡ placed r (flatten (surfaceTriangles self first)) (now (out .entry)) ⌝ }
+    // Writes the triangles of the surface whose first vertex is `first` to the front of `out`.
+    pub fn put_triangles(self, first: u32, out: &mut [u32])
+        requires { ⌜ first + surfaceVertexCount self ≤ mostInAll ⌝ }
+        requires { ⌜ 3 * surfaceTriangleCount self ≤ length (now out) ⌝ }
+        ensures { λ _. ⌜ now (out .exit) ≡ overwrite 0 (flatten (surfaceTriangles self first)) (now (out .entry)) ⌝ }
     {
-        if !self.is_placeable(first, out.len()) {
-            return false;
-        }
-        let along = self.along;
-        if along.is_capped() {
-            self.write_capped(first, out);
+        let ending = self.ending;
+        if ending.is_capped() {
+            self.put_capped(first, out);
         } else {
             write_grid(out, 0, self, first);
         }
-        true
+    }
+
+    // Writes the triangles as `put_triangles` does and answers true; or answers false and writes
+    // nothing, where a vertex would be numbered `MOST_IN_ALL` or above, or `out` is too short.
+    pub fn write_triangles(self, first: u32, out: &mut [u32]) -> bool
+        ensures { λ r. ⌜ r ≡ placeable self first (length (now (out .entry))) ⌝ }
+        ensures { λ r. ⌜ now (out .exit) ≡ placed r (flatten (surfaceTriangles self first)) (now (out .entry)) ⌝ }
+    {
+        if self.is_placeable(first, out.len()) {
+            self.put_triangles(first, out);
+            return true;
+        }
+        false
     }
 }

@@ -11,9 +11,8 @@ use lib.Dec.{leb}
 use lib.ListN.{length, getD, set, take, drop, length-set, take-append-drop}
 use lib.Seq.{length-take-le, take-suc, take-all}
 use Rattle.laws.specs.Overwrite.{overwrite, overwrite-none, written-behind, overwrite-past, one-store}
-use Rattle.descriptions.specs.Answers.{Answer, refused, accepted, firstOf}
-use Rattle.descriptions.specs.Refusals.{test}
-use Rattle.descriptions.proofs.FirstOf.{accepted-by}
+use Rattle.answers.specs.Answers.{Answer, refused, accepted, firstOf, test}
+use Rattle.answers.proofs.FirstOf.{accepted-by}
 use Rattle.set_table.specs.Table.{totalsIn, undamaged}
 use Rattle.set_table.specs.Buffers.{Buffers}
 use Rattle.set_file.specs.File.{fileIn, endTests, fileWordOf}

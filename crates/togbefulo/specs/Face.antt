@@ -6,7 +6,8 @@ use Prim.Native.Nat.{ℕ}
 use lib.Ieee.{Float}
 use lib.ListN.{length}
 use Rattle.laws.specs.Overwrite.{overwrite}
-use Rattle.descriptions.specs.Answers.{Answer, refused, accepted, numberIn, Counts}
+use Rattle.answers.specs.Answers.{Answer, refused, accepted, numberIn}
+use Rattle.descriptions.specs.Answers.{Counts}
 use Rattle.descriptions.specs.Refusals.{countsOf, checkedOf}
 use Rattle.descriptions.specs.declared.kind.Described.{Described}
 use Rattle.descriptions.specs.declared.kind.Described.the-variants.{Known, Unknown}

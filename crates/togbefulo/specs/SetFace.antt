@@ -4,7 +4,7 @@ use mathlib.Core.List.{List, [], _∷_}
 use Prim.Native.Nat.{ℕ}
 use lib.Ieee.{Float}
 use Rattle.laws.specs.Overwrite.{overwrite}
-use Rattle.descriptions.specs.Answers.{Answer, refused, accepted}
+use Rattle.answers.specs.Answers.{Answer, refused, accepted}
 use Rattle.descriptions.specs.declared.kind.Described.{Described}
 use Rattle.descriptions.specs.declared.kind.Described.the-variants.{Known, Unknown}
 use Rattle.set_table.specs.Buffers.{Buffers}

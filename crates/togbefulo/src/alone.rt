@@ -4,7 +4,8 @@
 ghost use mathlib.Core.Path.{_≡_};
 ghost use Rattle.float32.specs.Scan.{allFinite};
 ghost use Rattle.laws.specs.Overwrite.{placed};
-ghost use Rattle.descriptions.specs.Answers.{numberIn, verdictAnswer, countedAnswer};
+ghost use Rattle.answers.specs.Answers.{numberIn};
+ghost use Rattle.descriptions.specs.Answers.{verdictAnswer, countedAnswer};
 ghost use Rattle.descriptions.specs.KindNumbers.{describedOf};
 ghost use Rattle.togbefulo.specs.Face.{checkNumber, countsNumber, countsIn, countsAfter, isDrawn, drawnVertices};
 use descriptions::Counted;

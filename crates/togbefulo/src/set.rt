@@ -1,7 +1,7 @@
 // The shared set, in buffers that the caller lends. A description is handed over as in alone.rt. Answers are document 01's numbers, 0 where
 // nothing is refused, and 2^32 − 1 for an unknown kind.
 ghost use mathlib.Core.Path.{_≡_};
-ghost use Rattle.descriptions.specs.Answers.{numberIn};
+ghost use Rattle.answers.specs.Answers.{numberIn};
 ghost use Rattle.descriptions.specs.KindNumbers.{describedOf};
 ghost use Rattle.set_table.specs.Buffers.{buffers};
 ghost use Rattle.shared_set.specs.Set.{clearAnswer, cleared};

@@ -11,14 +11,13 @@ mod step;
 ghost use mathlib.Core.Path.{_≡_};
 ghost use lib.ListN.{length};
 ghost use Rattle.io.specs.Counts.{Counts};
+use crate::digest::VERTEX_FLOATS;
 use crate::garbage::fill_floats;
 use crate::garbage::fill_words;
 use crate::replay::replay;
 use little_endian::read_words;
 
 const TABLE_WORDS: usize = 400;
-
-const VERTEX_FLOATS: usize = 2400;
 
 const TRIANGLE_WORDS: usize = 4800;
 
@@ -36,7 +35,9 @@ fn read_input(words: &mut [u32]) -> usize
 }
 
 // Fills the buffers and clears the table.
-fn prepare(table: &mut [u32], vertices: &mut [f32], triangles: &mut [u32]) {
+fn prepare(table: &mut [u32], vertices: &mut [f32], triangles: &mut [u32])
+    requires { ⌜ 2400 ≡ length (now vertices) ⌝ }
+{
     fill_words(1, table);
     fill_floats(2, vertices);
     fill_words(3, triangles);

@@ -1,3 +1,4 @@
+ghost use mathlib.Core.Path.{_≡_};
 ghost use Prim.Native.Nat.{_≤_};
 ghost use lib.ListN.{length};
 use crate::digest::digest;
@@ -15,6 +16,7 @@ fn print_step(
     vertices: &mut [f32],
     triangles: &mut [u32],
 ) -> usize
+    requires { ⌜ 2400 ≡ length (now vertices) ⌝ }
     ensures { λ r. ⌜ r ≤ length (now (words .entry)) ⌝ }
 {
     let count = step_words(words);
@@ -28,12 +30,9 @@ fn print_step(
 }
 
 // Does all steps.
-pub(crate) fn replay(
-    words: &[u32],
-    table: &mut [u32],
-    vertices: &mut [f32],
-    triangles: &mut [u32],
-) {
+pub(crate) fn replay(words: &[u32], table: &mut [u32], vertices: &mut [f32], triangles: &mut [u32])
+    requires { ⌜ 2400 ≡ length (now vertices) ⌝ }
+{
     let mut at: usize = 0;
     loop {
         let count = print_step(&words[at..], table, vertices, triangles);

@@ -15,19 +15,11 @@ use descriptions::Description;
 use descriptions::Verdict;
 use descriptions::of_kind;
 use float32::from_word;
-use float32::to_word;
+use hex_lines::from_words;
+use hex_lines::print_kind;
+use hex_lines::print_triples;
 use hex_lines::print_words;
-
-fn print_kind(kind: u32) {
-    match kind {
-        1 => io::write_all(1, b"ribbon "),
-        2 => io::write_all(1, b"tube "),
-        3 => io::write_all(1, b"capsule "),
-        4 => io::write_all(1, b"torus "),
-        _ => io::write_all(1, b"closed_cylinder "),
-    }
-    ;
-}
+use hex_lines::to_words;
 
 // Prints the counts of the body along a curve with this number of vertices, or the number of its
 // refusal.
@@ -38,19 +30,6 @@ fn print_counts(description: Description, vertices: usize) {
             vertices,
             triangles,
         } => print_words(&[vertices, triangles], b'\n'),
-    }
-}
-
-fn print_vertices(values: &[f32]) {
-    let mut i: usize = 0;
-    while i + 3 <= values.len() {
-        let vertex = [
-            to_word(values[i]),
-            to_word(values[i + 1]),
-            to_word(values[i + 2]),
-        ];
-        print_words(&vertex, b'\n');
-        i += 3;
     }
 }
 
@@ -66,11 +45,7 @@ fn load_curve(words: [u32; 16], curve: &mut [f32]) -> usize
     requires { ⌜ length (now curve) ≡ 15 ⌝ }
     ensures { λ r. ⌜ (r ≤ length (now (curve .exit))) × (r ≡ length (take r (now (curve .exit)))) ⌝ }
 {
-    let mut i: usize = 0;
-    while i < 15 {
-        curve[i] = from_word(words[i + 1]);
-        i += 1;
-    }
+    from_words(&words[1..], curve);
     if words[0] <= 5 {
         3 * words[0] as usize
     } else {
@@ -108,8 +83,10 @@ fn described(case: [u32; 7]) -> Described {
 
 fn print_vertices_of(description: Description, curve: &[f32]) {
     let mut values = [0.0f32; MOST_COORDINATES];
+    let mut words = [0u32; MOST_COORDINATES];
     let count = write_body(description, curve, &mut values);
-    print_vertices(&values[..count]);
+    to_words(&values, &mut words);
+    print_triples(&words[..count]);
 }
 
 fn print_head(case: [u32; 7]) {

@@ -6,6 +6,8 @@ mod cases;
 ghost use Rattle.io.specs.Counts.{Counts};
 use crate::cases::LISTS;
 use crate::cases::MOST_INDICES;
+use hex_lines::print_kind;
+use hex_lines::print_triples;
 use hex_lines::print_words;
 use kinds::Capsule;
 use kinds::ClosedCylinder;
@@ -51,34 +53,14 @@ fn body(case: [u32; 5]) -> Topology {
     }
 }
 
-fn print_kind(body: Topology) {
-    match body {
-        Topology::Ribbon(_) => io::write_all(1, b"ribbon "),
-        Topology::Tube(_) => io::write_all(1, b"tube "),
-        Topology::Capsule(_) => io::write_all(1, b"capsule "),
-        Topology::Torus(_) => io::write_all(1, b"torus "),
-        Topology::ClosedCylinder(_) => io::write_all(1, b"closed_cylinder "),
-    }
-    ;
-}
-
 fn print_head(case: [u32; 5]) {
     let body = body(case);
-    print_kind(body);
+    print_kind(case[0]);
     print_words(&[case[1], case[2], case[3], case[4]], b' ');
     print_words(
         &[word(body.vertex_count()), word(body.triangle_count())],
         b'\n',
     );
-}
-
-fn print_triangles(indices: &[u32]) {
-    let mut i: usize = 0;
-    while i + 3 <= indices.len() {
-        let end = i + 3;
-        print_words(&indices[i..end], b'\n');
-        i = end;
-    }
 }
 
 // Writes the body's list to the front of `indices`, and answers how many indices it has: none
@@ -96,7 +78,7 @@ fn print_list(case: [u32; 5]) {
     print_head(case);
     let mut indices = [0u32; MOST_INDICES];
     let n = write_list(body(case), case[4], &mut indices);
-    print_triangles(&indices[..n]);
+    print_triples(&indices[..n]);
 }
 
 fn main() {

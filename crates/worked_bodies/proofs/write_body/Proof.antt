@@ -7,7 +7,7 @@ use lib.ListN.{length, length-take}
 use Rattle.kinds.specs.Kinds.{vertexCount}
 use Rattle.descriptions.specs.Descriptions.{topologyOf}
 use Rattle.descriptions.specs.Refusals.{checkedTests}
-use Rattle.descriptions.proofs.FirstOf.{accepted-by}
+use Rattle.answers.proofs.FirstOf.{accepted-by}
 use Rattle.bodies.proofs.Drawable.{drawn-room}
 use borrow.Author.Needs.{needs}
 use Rattle.worked_bodies.proofs.write_body.Statement.{statement}

@@ -9,6 +9,7 @@ use borrow.Author.Tests.{leb-true}
 use lib.Dec.{leb}
 use lib.ListN.{length-take}
 use Rattle.laws.specs.Conjunction.{both-true}
+use Rattle.surface.specs.Limits.{fits}
 use Rattle.kinds.specs.Kinds.{permitted, vertexCount, triangleCount, writable}
 use Rattle.kinds.specs.declared.topology.Topology.{Topology}
 use Rattle.worked_lists.proofs.write_list.Statement.{statement}
@@ -16,12 +17,13 @@ use Rattle.worked_lists.proofs.write_list.Tie as tie
 
 has-room : (t : Topology) (first room : ℕ) {n : ℕ} {r : Bool}
     → r ≡ writable t first room → r ≡ true → n ≡ triangleCount t → 3 * n ≤ room
-unfolding writable
+unfolding writable fits
 has-room t first room answer written count =
     let numbered = leb (first + vertexCount t) (2 ^ 28) in
+    let few = leb (triangleCount t) (2 ^ 28) in
     let held = leb (3 * triangleCount t) room in
-    let fits = both-true numbered held (both-true (permitted t) (numbered && held) (sym answer ∙ written) .1) in
-    rw count (leb-true (3 * triangleCount t) room (fits .1))
+    let placed = both-true (permitted t) (numbered && (few && held)) (sym answer ∙ written) .1 in
+    rw count (leb-true (3 * triangleCount t) room (both-true few held (both-true numbered (few && held) placed .1) .1))
 
 mul-result : tie.Need-mul-result
 mul-result c =

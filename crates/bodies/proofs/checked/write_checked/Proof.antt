@@ -12,10 +12,10 @@ use lib.ListN.{length}
 use Rattle.laws.specs.Overwrite.{placed}
 use Rattle.laws.specs.Conjunction.{both-true}
 use Rattle.kinds.specs.Kinds.{permitted, vertexCount}
-use Rattle.descriptions.specs.Answers.{AllPermitted, refused, accepted}
+use Rattle.answers.specs.Answers.{AllPermitted, refused, accepted}
 use Rattle.descriptions.specs.Descriptions.{topologyOf}
 use Rattle.descriptions.specs.Refusals.{ShapePermitted, segmentTests, segmentsCheckedOf, foldTests, checkedOf}
-use Rattle.descriptions.proofs.FirstOf.{accepted-by, refused-by}
+use Rattle.answers.proofs.FirstOf.{accepted-by, refused-by}
 use Rattle.descriptions.proofs.Shapes.{counts-most, shape-permitted, segments-shape}
 use Rattle.descriptions.proofs.Checked.{fold-answer}
 use Rattle.bodies.specs.Bodies.{verticesOf, drawable}

@@ -9,10 +9,10 @@ use denote.Ref.{now}
 use lib.ListN.{length}
 use Rattle.laws.specs.Overwrite.{overwrite, placed}
 use Rattle.kinds.specs.Kinds.{vertexCount}
-use Rattle.descriptions.specs.Answers.{accepted}
+use Rattle.answers.specs.Answers.{accepted}
 use Rattle.descriptions.specs.Descriptions.{topologyOf}
 use Rattle.descriptions.specs.Refusals.{ShapePermitted, shapeTests, shapeOf}
-use Rattle.descriptions.proofs.FirstOf.{accepted-by}
+use Rattle.answers.proofs.FirstOf.{accepted-by}
 use Rattle.descriptions.proofs.Shapes.{counts-most, accepted-permitted}
 use Rattle.bodies.specs.Bodies.{verticesOf}
 use Rattle.bodies.proofs.Drawable.{same-count, drawn, not-whole, not-shaped, no-room}

@@ -1,4 +1,5 @@
--- `curve::are_segments_permitted` meets its contract: the loop passes a segment only where it is permitted. Assumes nothing.
+-- `curve::are_segments_permitted` meets its contract: the loop passes a segment only where it is
+-- permitted. Assumes nothing.
 use mathlib.Core.Path.{_≡_, refl, sym, ap, _∙_}
 use mathlib.Core.Bool.{Bool, true, not}
 use mathlib.Core.List.{List}
@@ -25,7 +26,8 @@ abbrev μ-loop : tie.MeasureT-loop
 
 -- what a turn's test says of its segment
 tested : (c : tie.After-is-refused Inv-loop μ-loop) → let a = c .before .before .before .before .before .args in
-    not (c .is-refused .result) ≡ permittedAt (a .chain) (a .count) (now (a .curve)) (c .before .before .before .loop .k)
+    not (c .is-refused .result)
+    ≡ permittedAt (a .chain) (a .count) (now (a .curve)) (c .before .before .before .loop .k)
 tested c = ap not (c .is-refused .ensures ∙ ap segmentRefused (c .before .segment .ensures))
 
 loop-holds : tie.Need-loop-holds Inv-loop μ-loop
@@ -41,8 +43,9 @@ returns : tie.Need-returns Inv-loop μ-loop
 unfolding segmentsPermitted
 returns c = let l = c .before .before .before .before .loop in
     let a = c .before .before .before .before .before .before .args in
-    sym (every-fails (a .count) (permittedAt (a .chain) (a .count) (now (a .curve))) (l .k) (c .before .before .before .loop-test .taken)
-    (sym (tested (c .before)) ∙ ap not (c .if1 .taken)))
+    let p = permittedAt (a .chain) (a .count) (now (a .curve)) in
+    let fails = sym (tested (c .before)) ∙ ap not (c .if1 .taken) in
+    sym (every-fails (a .count) p (l .k) (c .before .before .before .loop-test .taken) fails)
 
 add-k : tie.Need-add-k Inv-loop μ-loop
 add-k c = omega arith
@@ -52,10 +55,9 @@ loop-less c = omega arith
 
 loop-again : tie.Need-loop-again Inv-loop μ-loop
 loop-again c = let l = c .before .before .before .before .loop in
-    let a = c .before .before .before .before .before .before .args in (
-      omega arith,
-      every-more (l .k) (permittedAt (a .chain) (a .count) (now (a .curve))) (l .inv .1) (sym (tested (c .before)) ∙ ap not (c .if1 .left)),
-    )
+    let a = c .before .before .before .before .before .before .args in
+    let p = permittedAt (a .chain) (a .count) (now (a .curve)) in
+    (omega arith, every-more (l .k) p (l .inv .1) (sym (tested (c .before)) ∙ ap not (c .if1 .left)))
 
 returns-2 : tie.Need-returns-2 Inv-loop μ-loop
 unfolding segmentsPermitted

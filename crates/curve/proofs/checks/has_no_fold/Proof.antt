@@ -1,88 +1,69 @@
--- `curve::has_no_fold` meets its contract: the loop passes a vertex only where it is no fold. Assumes nothing.
+-- `curve::has_no_fold` meets its contract: the loop passes a corner only where it is no fold.
+-- Assumes nothing.
 use mathlib.Core.Path.{_≡_, refl, sym, ap, _∙_}
 use mathlib.Core.Bool.{Bool, true, not}
 use mathlib.Core.List.{List}
-use Prim.Native.Nat.{ℕ, _+_, _-_, _*_, _/_, _≤_}
+use Prim.Native.Nat.{ℕ, _-_, _≤_}
 use native.Mathlib.Omega.{arith}
 use borrow.Author.Needs.{needs}
 use denote.Ref.{now}
 use lib.Ieee.{Float}
-use lib.ListN.{length}
 use Rattle.laws.specs.Every.{every, every-more, every-fails}
-use Rattle.curve.specs.Segments.{vertexOf}
-use Rattle.curve.specs.Checks.{foldRefused, noFoldIn}
-use Rattle.curve.proofs.Table.{vertex-at}
+use Rattle.surface.specs.declared.grid.Chain.{Chain}
+use Rattle.curve.specs.Checks.{isFold, cosineIn, noFoldIn}
 use Rattle.curve.proofs.checks.has_no_fold.Statement.{statement}
 use Rattle.curve.proofs.checks.has_no_fold.Tie as tie
 
-abbrev permittedAt : List Float → ℕ → Bool
-permittedAt d k = not (foldRefused (vertexOf d k) (vertexOf d (k + 1)))
+abbrev permittedAt : Chain → ℕ → List Float → ℕ → Bool
+permittedAt chain count table k = not (isFold (cosineIn chain count table k))
 
 abbrev Inv-loop : tie.InvT-loop
-Inv-loop directions count k₀ k = (1 ≤ k) × (every (k - 1) (permittedAt directions) ≡ true) × (k - 1 ≤ count - 1)
+Inv-loop chain count corners table k₀ k = (k ≤ corners) × (every k (permittedAt chain count table) ≡ true)
 
 abbrev μ-loop : tie.MeasureT-loop
-μ-loop directions count k₀ k = count - k
+μ-loop chain count corners table k₀ k = corners - k
 
--- what a turn's test says of its vertex
-tested : (c : tie.After-is-fold Inv-loop μ-loop) → let d = now (c .before .before .before .before .before .before .args .directions) in
-    not (c .is-fold .result) ≡ permittedAt d (c .before .before .before .before .loop .k - 1)
-tested c = let d = now (c .before .before .before .before .before .before .args .directions) in
-    let k = c .before .before .before .before .loop .k in
-    let first : 3 * k - 3 ≡ 3 * (k - 1) = omega arith in
-    let next : k ≡ k - 1 + 1 = omega arith in
-    let u = c .before .before .point .ensures ∙ vertex-at d (k - 1) (omega arith) first in
-    let w = c .before .point2 .ensures ∙ vertex-at d k (omega arith) refl ∙ ap (vertexOf d) next in
-    ap not (c .is-fold .ensures ∙ (λ i. foldRefused (u i) (w i)))
+-- what a turn's test says of its corner
+tested : (c : tie.After-is-fold Inv-loop μ-loop) → let a = c .before .before .before .before .before .args in
+    not (c .is-fold .result)
+    ≡ permittedAt (a .chain) (a .count) (now (a .directions)) (c .before .before .before .loop .corner)
+tested c = ap not (c .is-fold .ensures ∙ ap isFold (c .before .corner-cosine .ensures))
 
 loop-holds : tie.Need-loop-holds Inv-loop μ-loop
-loop-holds c = (omega arith, refl, omega arith)
+loop-holds c = (omega arith, refl)
 
-mul-point : tie.Need-mul-point Inv-loop μ-loop
-mul-point c = omega arith
-
-sub-point : tie.Need-sub-point Inv-loop μ-loop
-sub-point c = omega arith
-
-point-requires : tie.Need-point-requires Inv-loop μ-loop
-point-requires c κs = omega arith
-
-mul-point-2 : tie.Need-mul-point-2 Inv-loop μ-loop
-mul-point-2 c = omega arith
-
-point-requires-2 : tie.Need-point-requires-2 Inv-loop μ-loop
-point-requires-2 c κs = omega arith
+corner-cosine-requires : tie.Need-corner-cosine-requires Inv-loop μ-loop
+corner-cosine-requires c κs = search needs
 
 is-fold-requires : tie.Need-is-fold-requires Inv-loop μ-loop
 is-fold-requires c κs = search needs
 
 returns : tie.Need-returns Inv-loop μ-loop
 unfolding noFoldIn
-returns c = let k = c .before .before .before .before .before .loop .k in
-    let d = now (c .before .before .before .before .before .before .before .args .directions) in
-    sym (every-fails (length d / 3 - 1) (permittedAt d) (k - 1) (omega arith) (sym (tested (c .before)) ∙ ap not (c .if1 .taken)))
+returns c = let l = c .before .before .before .before .loop in
+    let a = c .before .before .before .before .before .before .args in
+    let p = permittedAt (a .chain) (a .count) (now (a .directions)) in
+    let fails = sym (tested (c .before)) ∙ ap not (c .if1 .taken) in
+    sym (every-fails (a .corners) p (l .corner) (c .before .before .before .loop-test .taken) fails)
 
-add-k : tie.Need-add-k Inv-loop μ-loop
-add-k c = omega arith
+add-corner : tie.Need-add-corner Inv-loop μ-loop
+add-corner c = omega arith
 
 loop-less : tie.Need-loop-less Inv-loop μ-loop
 loop-less c = omega arith
 
 loop-again : tie.Need-loop-again Inv-loop μ-loop
-loop-again c = let l = c .before .before .before .before .before .loop in
-    let f = permittedAt (now (c .before .before .before .before .before .before .before .args .directions)) in
-    let next : l .k - 1 + 1 ≡ l .k + 1 - 1 = omega arith in (
-      omega arith,
-      ap (λ n. every n f) (sym next) ∙ every-more (l .k - 1) f (l .inv .1) (sym (tested (c .before)) ∙ ap not (c .if1 .left)),
-      omega arith,
-    )
+loop-again c = let l = c .before .before .before .before .loop in
+    let a = c .before .before .before .before .before .before .args in
+    let p = permittedAt (a .chain) (a .count) (now (a .directions)) in
+    (omega arith, every-more (l .corner) p (l .inv .1) (sym (tested (c .before)) ∙ ap not (c .if1 .left)))
 
 returns-2 : tie.Need-returns-2 Inv-loop μ-loop
 unfolding noFoldIn
 returns-2 c = let l = c .before .loop in
-    let d = now (c .before .before .before .args .directions) in
-    let all : l .k - 1 ≡ length d / 3 - 1 = omega arith in
-    sym (l .inv .1) ∙ ap (λ n. every n (permittedAt d)) all
+    let a = c .before .before .before .args in
+    let all : l .corner ≡ a .corners = omega arith in
+    sym (l .inv .1) ∙ ap (λ n. every n (permittedAt (a .chain) (a .count) (now (a .directions)))) all
 
 pub has-no-fold-spec : {M : Type 1} → statement M
 has-no-fold-spec =
@@ -91,14 +72,10 @@ has-no-fold-spec =
     Inv-loop
     μ-loop
     loop-holds
-    mul-point
-    sub-point
-    point-requires
-    mul-point-2
-    point-requires-2
+    corner-cosine-requires
     is-fold-requires
     returns
-    add-k
+    add-corner
     loop-less
     loop-again
     returns-2)

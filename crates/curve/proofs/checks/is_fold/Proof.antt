@@ -1,15 +1,12 @@
--- `curve::checks::is_fold` meets its contract: the call gives what the definition names. Assumes nothing.
-use borrow.Author.Needs.{needs}
-use Rattle.curve.specs.Checks.{foldRefused}
+-- `curve::checks::is_fold` is its definition. Assumes nothing.
+use Rattle.curve.specs.Checks.{isFold}
+use mathlib.Core.Path.{refl}
 use Rattle.curve.proofs.checks.is_fold.Statement.{statement}
 use Rattle.curve.proofs.checks.is_fold.Tie as tie
 
-dot-requires : tie.Need-dot-requires
-dot-requires c κs = search needs
-
 returns : tie.Need-returns
-unfolding foldRefused
-returns c = rw (← c .dot .ensures)
+unfolding isFold
+returns c = refl
 
 pub is-fold-spec : {M : Type 1} → statement M
-is-fold-spec = tie.close (tie.spec dot-requires returns)
+is-fold-spec = tie.close (tie.spec returns)

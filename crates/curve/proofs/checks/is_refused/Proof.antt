@@ -1,4 +1,4 @@
--- `curve::checks::is_refused` meets its contract: one test behind the other. Assumes nothing.
+-- `curve::checks::is_refused` meets its contract: one test after the other. Assumes nothing.
 use mathlib.Core.Path.{_≡_, ap, _∙_}
 use mathlib.Core.Bool.{not, _||_}
 use mathlib.Core.Logic.{⊎-elim}
@@ -25,7 +25,9 @@ returns c = rw (← c .before .before .dot .ensures, ← outside (c .before), c 
 
 returns-2 : tie.Need-returns-2
 unfolding segmentRefused
-returns-2 c = rw (← c .before .before .before .dot .ensures, ← outside (c .before .before), c .before .if2 .left) (ap not (c .is-finite .ensures))
+returns-2 c =
+    rw (← c .before .before .before .dot .ensures, ← outside (c .before .before), c .before .if2 .left)
+    (ap not (c .is-finite .ensures))
 
 pub is-refused-spec : {M : Type 1} → statement M
 is-refused-spec = tie.close (tie.spec dot-requires is-finite-requires returns returns-2)

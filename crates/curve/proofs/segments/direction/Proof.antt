@@ -1,4 +1,5 @@
--- `curve::direction` meets its contract: each call gives what the definition names. Assumes nothing.
+-- `curve::direction` meets its contract: each call gives what the definition names. Assumes
+-- nothing.
 use borrow.Author.Needs.{needs}
 use Rattle.curve.specs.Segments.{segmentDirection}
 use Rattle.curve.proofs.segments.direction.Statement.{statement}

@@ -1,5 +1,5 @@
--- `curve::segments::end` is `afterOf`, chain by chain: the remainder of less than the divisor is the number itself, of the divisor 0, and
--- by 0 the number again. Assumes nothing.
+-- `curve::segments::end` is `afterOf`, chain by chain: the remainder of a number below the divisor
+-- is the number itself, that of the divisor is 0, and that by 0 the number again. Assumes nothing.
 use mathlib.Core.Path.{_≡_, refl, sym, ap, _∙_}
 use Prim.Native.Nat.{ℕ, _+_, _%_}
 use native.Mathlib.Nat.{mod-zero, mod-self, mod-eq-of-lt}
@@ -9,7 +9,8 @@ use Rattle.curve.proofs.segments.end.Statement.{statement}
 use Rattle.curve.proofs.segments.end.Tie as tie
 
 -- on a closed chain what is answered is to be the remainder
-closed : (c : tie.After-enum-told2) {r : ℕ} → let a = c .before .before .args in (a .k + 1) % (a .count) ≡ r → r ≡ afterOf (a .chain) (a .count) (a .k)
+closed : (c : tie.After-enum-told2) {r : ℕ} → let a = c .before .before .args in
+    (a .k + 1) % (a .count) ≡ r → r ≡ afterOf (a .chain) (a .count) (a .k)
 closed c e = let a = c .before .before .args in
     sym (ap (λ chain. afterOf chain (a .count) (a .k)) (c .enum-told2 .given .1) ∙ e)
 
@@ -37,7 +38,8 @@ rem-result : tie.Need-rem-result
 rem-result c = search needs
 
 returns-4 : tie.Need-returns-4
-returns-4 c = let a = c .before .before .args in sym (ap (λ chain. afterOf chain (a .count) (a .k)) (c .enum-told .given .1))
+returns-4 c = let a = c .before .before .args in
+    sym (ap (λ chain. afterOf chain (a .count) (a .k)) (c .enum-told .given .1))
 
 returns-5 : tie.Need-returns-5
 returns-5 c = closed (c .before .before .before) refl

@@ -18,7 +18,9 @@ sub-requires c κs = search needs
 
 returns : tie.Need-returns
 unfolding segmentOf
-returns c = rw (← c .before .before .before .end .ensures, ← c .before .before .vertex .ensures, ← c .before .vertex2 .ensures) (c .sub .ensures)
+returns c =
+    rw (← c .before .before .before .end .ensures, ← c .before .before .vertex .ensures, ← c .before .vertex2 .ensures)
+    (c .sub .ensures)
 
 pub segment-spec : {M : Type 1} → statement M
 segment-spec = tie.close (tie.spec end-requires vertex-requires vertex-requires-2 sub-requires returns)

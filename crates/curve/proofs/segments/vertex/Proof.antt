@@ -1,4 +1,5 @@
--- `curve::vertex` meets its contract: each arm is what `cond` picks where the test is as the arm found it. Assumes nothing.
+-- `curve::vertex` meets its contract: each arm is what `cond` picks where the test is as the arm
+-- found it. Assumes nothing.
 use borrow.Author.Needs.{needs}
 use borrow.Author.Tests.{lt-ltb, le-ltb}
 use lib.Ieee.{ofBits, div}

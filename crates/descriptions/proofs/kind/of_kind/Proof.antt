@@ -26,8 +26,11 @@ returns-5 c = rw (c .match .keys5)
 
 returns-6 : tie.Need-returns-6
 unfolding describedOf
-returns-6 c = let rest = c .match .rest in
-    rw (ne-eqb _ 1 (rest .0 .0 .0 .0 .1), ne-eqb _ 2 (rest .0 .0 .0 .1), ne-eqb _ 3 (rest .0 .0 .1), ne-eqb _ 4 (rest .0 .1), ne-eqb _ 5 (rest .1))
+returns-6 c =
+    let rest = c .match .rest in
+    let front = rest .0 .0 in
+    let no-one = ne-eqb _ 1 (front .0 .0 .1) in
+    rw (no-one, ne-eqb _ 2 (front .0 .1), ne-eqb _ 3 (front .1), ne-eqb _ 4 (rest .0 .1), ne-eqb _ 5 (rest .1))
 
 pub of-kind-spec : {M : Type 1} → statement M
 of-kind-spec = tie.close (tie.spec returns returns-2 returns-3 returns-4 returns-5 returns-6)

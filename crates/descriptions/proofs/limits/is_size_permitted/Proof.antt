@@ -1,4 +1,4 @@
--- Finite and above zero, one test behind the other. Assumes nothing.
+-- Finite, then above zero. Assumes nothing.
 use mathlib.Core.Path.{refl}
 use lib.Ieee.{binary32, ofBits, lt}
 use Rattle.kinds.proofs.Answers.{passed, failed}
@@ -16,7 +16,8 @@ returns c = passed (c .before .is-finite .ensures) (c .if1 .taken) refl
 
 returns-2 : tie.Need-returns-2
 unfolding sizePermitted
-returns-2 c = failed (lt (ofBits binary32 0) (c .before .before .args .x)) (c .before .is-finite .ensures) (c .if1 .left)
+returns-2 c =
+    failed (lt (ofBits binary32 0) (c .before .before .args .x)) (c .before .is-finite .ensures) (c .if1 .left)
 
 pub is-size-permitted-spec : {M : Type 1} → statement M
 is-size-permitted-spec = tie.close (tie.spec is-finite-requires returns returns-2)

@@ -11,13 +11,12 @@ use denote.Enum.Declared.{tagOf}
 use denote.Ref.{now}
 use lib.ListN.{length}
 use Rattle.laws.specs.Overwrite.{overwrite}
-use Rattle.descriptions.specs.Answers.{Answer, refused, accepted}
+use Rattle.answers.specs.Answers.{Answer, refused, accepted, outcomeAnswer}
 use Rattle.set_table.specs.Buffers.{Buffers, buffers, lengthsOf}
-use Rattle.shared_set.specs.Answers.{outcomeAnswer}
 use Rattle.shared_set.specs.Set.{clearAnswer, cleared}
-use Rattle.shared_set.specs.declared.answers.Outcome.{Outcome}
-use Rattle.shared_set.specs.declared.answers.Outcome.the-variants as outcome
-use Rattle.shared_set.proofs.answers.Outcome.{the-type}
+use Rattle.answers.specs.declared.outcome.Outcome.{Outcome}
+use Rattle.answers.specs.declared.outcome.Outcome.the-variants as outcome
+use Rattle.answers.proofs.outcome.Outcome.{the-type}
 use Rattle.ledger.specs.Ledger.{Addition, empty, repliesTo}
 use Rattle.ledger.specs.Calls.{Called, additions}
 use Rattle.records.specs.Records.{additionsIn}

@@ -8,8 +8,7 @@ use borrow.Author.Needs.{needs}
 use denote.Ref.{now}
 use lib.ListN.{length}
 use Rattle.laws.specs.Overwrite.{overwrite, length-overwrite, overwrite-none, overwrite-past, one-store}
-use Rattle.descriptions.specs.Answers.{numberIn}
-use Rattle.shared_set.specs.Answers.{outcomeAnswer}
+use Rattle.answers.specs.Answers.{numberIn, outcomeAnswer}
 use Rattle.records.proofs.building.put_answer.Statement.{statement}
 use Rattle.records.proofs.building.put_answer.Tie as tie
 

@@ -32,8 +32,8 @@ returns c =
     let sound = rw (c .before .before .before .totals .given .1) at (found .read .ensures) in
     head-word s (a .place) sound (c .before .if1 .taken) (c .head-word .ensures)
 
-word-behind-requires : tie.Need-word-behind-requires
-word-behind-requires c κs =
+body-word-requires : tie.Need-body-word-requires
+body-word-requires c κs =
     let found = c .before .before .before .before in
     let a = found .before .before .before .before .args in
     let sound = rw (c .before .before .totals .given .1) at (found .read .ensures) in
@@ -53,7 +53,7 @@ returns-3 c =
     let a = found .before .before .before .before .args in
     let s = buffers (a .table .now) (a .vertices .now) (a .triangles .now) in
     let sound = rw (c .before .before .before .totals .given .1) at (found .read .ensures) in
-    later-word s (a .place) sound (c .before .if1 .left) (c .word-behind .ensures)
+    later-word s (a .place) sound (c .before .if1 .left) (c .body-word .ensures)
 
 pub file-word-spec : {M : Type 1} → statement M
 file-word-spec =
@@ -64,6 +64,6 @@ file-word-spec =
     enum-known-totals
     head-word-requires
     returns
-    word-behind-requires
+    body-word-requires
     returns-2
     returns-3)

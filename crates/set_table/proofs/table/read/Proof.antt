@@ -8,10 +8,10 @@ use borrow.Author.Needs.{needs}
 use denote.Ref.{now}
 use lib.ListN.{length}
 use Rattle.kinds.proofs.Answers.{passed, failed}
-use Rattle.descriptions.proofs.FirstOf.{permits, refuses}
-use Rattle.set_table.specs.Room.{tableWords}
+use Rattle.answers.proofs.FirstOf.{permits, refuses}
+use Rattle.set_table.specs.Entries.{tableWords}
 use Rattle.set_table.specs.Table.{bodiesIn, headSound, readingOf}
-use Rattle.set_table.proofs.Tables.{bothPermitted, head-bounds, answered, Summed, summed-next, head-damaged, entry-damaged, summed-read}
+use Rattle.set_table.proofs.Tables.{bothFit, head-bounds, answered, Summed, summed-next, head-damaged, entry-damaged, summed-read}
 use Rattle.set_table.proofs.table.read.Statement.{statement}
 use Rattle.set_table.proofs.table.read.Tie as tie
 
@@ -25,7 +25,7 @@ abbrev μ-loop : tie.MeasureT-loop
 abbrev called : tie.At-loop Inv-loop μ-loop → tie.Start Inv-loop μ-loop
 called c = c .before .before .before .before .before
 
--- behind the head's test
+-- after the head's test
 head : (c : tie.Else1 Inv-loop μ-loop) → headSound (now (c .before .before .before .args .table)) ≡ true
 head c = permits (c .before .is-head-sound .ensures) (c .if1 .left)
 
@@ -34,9 +34,9 @@ turn : (c : tie.In-loop Inv-loop μ-loop) → let j = c .before .loop .j in
     (j < 64) × (tableWords (j + 1) ≤ length (now (called (c .before) .args .table)))
 turn c = let bounds = head-bounds _ (head (c .before .before .before)) in omega arith
 
--- behind the loop all entries are summed up, and the tests of the totals answer
+-- after the loop all entries are added up, and the tests of the totals answer
 answer : (c : tie.After-loop Inv-loop μ-loop) {p : Bool} → let a = called (c .before) .args in let l = c .before .loop in
-    p ≡ bothPermitted (a .vertices) (a .triangles) (l .v) (l .t)
+    p ≡ bothFit (a .vertices) (a .triangles) (l .v) (l .t)
     → answered (now (a .table)) p (l .v) (l .t) ≡ readingOf (now (a .table)) (a .vertices) (a .triangles)
 answer c is =
     let a = called (c .before) .args in
@@ -48,9 +48,9 @@ answer c is =
 
 -- one of the totals is not permitted
 not-both : (c : tie.Joined3 Inv-loop μ-loop) → let a = called (c .before .before .before) .args in let l = c .before .before .before .loop in
-    false ≡ bothPermitted (a .vertices) (a .triangles) (l .v) (l .t)
+    false ≡ bothFit (a .vertices) (a .triangles) (l .v) (l .t)
 not-both c =
-    let test = c .before .is-total-permitted .ensures in
+    let test = c .before .fits2 .ensures in
     ⊎-elim (λ w. sym (w .2 .left) ∙ passed test (w .0 .taken) (w .1 .ensures)) (λ w. sym (w .left) ∙ failed _ test (w .left)) (c .if3 .came)
 
 is-head-sound-requires : tie.Need-is-head-sound-requires Inv-loop μ-loop
@@ -105,17 +105,17 @@ loop-again c =
     let sound = permits (tested .is-entry-sound .ensures) (c .before .before .if2 .left) in
     (summed-next _ (l .inv .0) (tested .before .read-entry .ensures) sound, omega arith, omega arith, omega arith)
 
-is-total-permitted-requires : tie.Need-is-total-permitted-requires Inv-loop μ-loop
-is-total-permitted-requires c κs = search needs
+fits-requires : tie.Need-fits-requires Inv-loop μ-loop
+fits-requires c κs = search needs
 
-is-total-permitted-requires-2 : tie.Need-is-total-permitted-requires-2 Inv-loop μ-loop
-is-total-permitted-requires-2 c κs = search needs
+fits-requires-2 : tie.Need-fits-requires-2 Inv-loop μ-loop
+fits-requires-2 c κs = search needs
 
 returns-3 : tie.Need-returns-3 Inv-loop μ-loop
 returns-3 c =
     let second = c .before in
     let first = second .before .before in
-    let both = passed (first .is-total-permitted .ensures) (second .before .if3 .taken) (second .is-total-permitted2 .ensures) in
+    let both = passed (first .fits2 .ensures) (second .before .if3 .taken) (second .fits3 .ensures) in
     answer (first .before) (sym (c .if4 .taken) ∙ both)
 
 returns-4 : tie.Need-returns-4 Inv-loop μ-loop
@@ -141,7 +141,7 @@ read-spec =
     add-j
     loop-less
     loop-again
-    is-total-permitted-requires
-    is-total-permitted-requires-2
+    fits-requires
+    fits-requires-2
     returns-3
     returns-4)

@@ -1,23 +1,20 @@
--- A damaged table is refused first; what another says is within its limits, and the answer is left to the tests behind 1. Assumes nothing.
-use mathlib.Core.Path.{_≡_, sym, ap, _∙_, subst}
-use mathlib.Core.List.{List, [], _∷_}
-use Prim.Native.Nat.{_*_, _≤_}
+-- A damaged table is refused first; any other leaves the answer to the tests after 1. Assumes nothing.
+use mathlib.Core.Path.{_≡_, refl, sym, ap, _∙_, subst}
+use mathlib.Core.List.{List}
+use Prim.Native.Nat.{_≤_}
 use borrow.Author.Needs.{needs}
 use denote.Ref.{now}
 use lib.ListN.{length}
-use Rattle.surface.specs.Limits.{mostInAll}
-use Rattle.descriptions.specs.Answers.{Test, accepted}
-use Rattle.descriptions.specs.Refusals.{test}
-use Rattle.descriptions.proofs.FirstOf.{accepted-by, passed-by, refused-by}
+use Rattle.answers.specs.Answers.{Test, accepted}
+use Rattle.answers.proofs.FirstOf.{accepted-by, passed-by, refused-by}
 use Rattle.set_table.specs.Room.{mostBodies}
-use Rattle.set_table.specs.Table.{totalsIn, undamaged, readingOf}
+use Rattle.set_table.specs.Table.{totalsIn, tableTests, readingOf}
 use Rattle.set_table.specs.Buffers.{Buffers, buffers, lengthsOf}
-use Rattle.set_table.specs.declared.answers.Why.the-variants as why
 use Rattle.set_table.specs.declared.totals.Totals.{Totals}
 use Rattle.set_table.proofs.Tables.{reads}
 use Rattle.shared_set.specs.Bodies.{Body, bodyAlone}
 use Rattle.shared_set.specs.Additions.{additionTests}
-use Rattle.shared_set.specs.Set.{settledAs, addedBehind, added}
+use Rattle.shared_set.specs.Set.{afterAnswer, appended, added}
 use Rattle.shared_set.proofs.Additions.{untouched}
 use Rattle.shared_set.proofs.addition.add.Statement.{statement}
 use Rattle.shared_set.proofs.addition.add.Tie as tie
@@ -31,12 +28,12 @@ held s = buffers (now (s .args .table)) (now (s .args .vertices)) (now (s .args 
 abbrev body : tie.Start → Body
 body s = bodyAlone (s .args .description) (now (s .args .curve))
 
--- what the table says; refusal 1, and those behind it
+-- what the table says; refusal 1, and those after it
 abbrev says : tie.Start → Totals
 says s = totalsIn (held s .table)
 
 abbrev first : tie.Start → List Test
-first s = test 1 (undamaged (held s .table) (length (held s .vertices)) (length (held s .triangles))) ∷ []
+first s = tableTests (held s .table) (length (held s .vertices)) (length (held s .triangles))
 
 abbrev others : tie.Start → List Test
 others s = additionTests (lengthsOf (held s)) (says s) (s .args .description) (now (s .args .curve))
@@ -50,14 +47,14 @@ sound : (t : tie.After-totals) → let s = held (given t) in
 sound t = rw (t .totals .given .1) at (t .before .before .read .ensures)
 
 behind : (t : tie.After-totals) → let s = given t in
-    addedBehind (s .args .description) (now (s .args .curve)) (t .totals .given .0 .0) (held s)
+    appended (s .args .description) (now (s .args .curve)) (t .totals .given .0 .0) (held s)
     ≡ added (s .args .description) (now (s .args .curve)) (held s)
 unfolding added
 behind t =
     let s = given t in
     let told = accepted-by (first s) (says s) (sound t) in
-    (λ j. addedBehind (s .args .description) (now (s .args .curve)) (told .0 j) (held s))
-    ∙ ap (settledAs (says s) (body s) (held s)) (passed-by (first s) (others s) tt (told .1))
+    (λ j. appended (s .args .description) (now (s .args .curve)) (told .0 j) (held s))
+    ∙ ap (afterAnswer (says s) (body s) (held s)) (passed-by (first s) (others s) tt (told .1))
 
 read-requires : tie.Need-read-requires
 read-requires c κs = search needs
@@ -68,12 +65,11 @@ enum-told c = search needs
 enum-known-totals : tie.Need-enum-known-totals
 enum-known-totals c = search needs
 
-add-behind-requires : tie.Need-add-behind-requires
-add-behind-requires c κs = let t = c .before .before .before .before in
+append-requires : tie.Need-append-requires
+append-requires c κs = let t = c .before .before .before .before in
     let s = held (given t) in
     let told = reads (s .table) (length (s .vertices)) (length (s .triangles)) (sound t) in
-    subst (λ (x : Totals). (x .bodies ≤ mostBodies) × ((x .vertices ≤ mostInAll) × (3 * x .vertices ≤ length (s .vertices)))) (sym (told .0))
-    (told .1 .few, (told .1 .vertices, told .1 .vertices-held))
+    subst (λ (x : Totals). x .bodies ≤ mostBodies) (sym (told .0)) (told .1 .few)
 
 same-length : tie.Need-same-length
 same-length c = search needs
@@ -83,7 +79,7 @@ unfolding added
 returns c = let r = c .before .before in
     let s = start r in
     let refusal = rw (c .enum-told .given .1) at (r .read .ensures) in
-    untouched why.DamagedTable (says s) (body s) (held s) (refused-by (first s) (others s) (says s) tt refusal)
+    untouched (says s) (body s) (held s) refl (refused-by (first s) (others s) (says s) tt refusal)
 
 same-length-2 : tie.Need-same-length-2
 same-length-2 c = search needs
@@ -96,7 +92,7 @@ same-length-4 c = search needs
 
 returns-2 : tie.Need-returns-2
 returns-2 c = let p = c .before .before .before .before .before .before in
-    p .add-behind .ensures ∙ behind (p .before .before .before .before .before)
+    p .append .ensures ∙ behind (p .before .before .before .before .before)
 
 pub add-spec : {M : Type 1} → statement M
 add-spec =
@@ -105,7 +101,7 @@ add-spec =
     read-requires
     enum-told
     enum-known-totals
-    add-behind-requires
+    append-requires
     same-length
     returns
     same-length-2

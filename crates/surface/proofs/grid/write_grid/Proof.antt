@@ -1,4 +1,5 @@
--- The rows whose rings follow one another, and behind them the last row of a closed grid. Assumes nothing.
+-- The rows whose rings follow one another, and after them the last row of a closed grid.
+-- Assumes nothing.
 use mathlib.Core.Path.{_≡_, sym, ap, _∙_}
 use mathlib.Core.List.{List}
 use Prim.Native.Nat.{ℕ, _+_, _*_, _^_, _≤_, _<_}
@@ -20,7 +21,7 @@ use Rattle.surface.proofs.LastRow.{none-left, one-left}
 use Rattle.surface.proofs.grid.write_grid.Statement.{statement}
 use Rattle.surface.proofs.grid.write_grid.Tie as tie
 
-ahead : (c : tie.After-straight) → let s = c .before .before .before .before .before .args .s in c .straight .result ≡ straightOf (chainOf (s .along)) (s .rows)
+ahead : (c : tie.After-straight) → let s = c .before .before .before .before .before .args .s in c .straight .result ≡ straightOf (chainOf (s .ending)) (s .rows)
 ahead c = let s = c .before .before .before .before .before .args .s in
     c .straight .ensures ∙ ap (λ k. straightOf k (s .rows)) (c .before .chain .ensures)
 
@@ -33,7 +34,7 @@ room c = let a = c .before .before .before .before .before .args in
     let s = a .s in
     let k = c .straight .result in
     let e = ahead c in
-    let bounds = straight-bounds (chainOf (s .along)) (s .rows) in
+    let bounds = straight-bounds (chainOf (s .ending)) (s .rows) in
     let some : k ≤ s .rows = omega arith in
     let p = c .before .before .before .before .before .pre .numbers in (
       some,
@@ -85,22 +86,22 @@ add-place c = omega (arith, room (c .before .before .before .before .before))
 ring-size-requires : tie.Need-ring-size-requires
 ring-size-requires c κs = search needs
 
--- how far the last ring lies behind the first
-behind : (c : tie.After-ring-size) → let s = c .before .before .before .before .before .before .before .before .before .before .before .args .s in
+-- how far the last ring lies past the first
+to-last : (c : tie.After-ring-size) → let s = c .before .before .before .before .before .before .before .before .before .before .before .args .s in
     let k = c .before .before .before .before .before .before .straight .result in
     k * c .ring-size .result ≡ k * ringSize s
-behind c = let k = c .before .before .before .before .before .before .straight .result in ap (λ (w : ℕ). k * w) (c .ring-size .ensures)
+to-last c = let k = c .before .before .before .before .before .before .straight .result in ap (λ (w : ℕ). k * w) (c .ring-size .ensures)
 
 mul-low : tie.Need-mul-low
-mul-low c = let f = last (c .before .before .before .before .before .before) (omega arith) in omega (arith, behind c)
+mul-low c = let f = last (c .before .before .before .before .before .before) (omega arith) in omega (arith, to-last c)
 
 add-low : tie.Need-add-low
-add-low c = let f = last (c .before .before .before .before .before .before) (omega arith) in omega (arith, behind c)
+add-low c = let f = last (c .before .before .before .before .before .before) (omega arith) in omega (arith, to-last c)
 
 write-row-requires : tie.Need-write-row-requires
 write-row-requires c κs =
     let f = last (c .before .before .before .before .before .before .before) (omega arith) in
-    let b = behind (c .before) in
+    let b = to-last (c .before) in
     record { low-numbers = omega arith; high-numbers = omega arith; within = omega arith }
 
 same-length : tie.Need-same-length
@@ -119,10 +120,10 @@ returns c = let r = c .before .before .before .before in
     written-behind (a .at) (flatten rows) (flatten row) (now (a .out)) (first .ensures)
     (length-grid (s .split) (s .round) (s .columns) Open k (a .base))
     (c .before .before .write-row .ensures
-    ∙ (λ i. overwrite (place i) (flatten (rowTriangles (s .split) (s .round) (s .columns) (a .base + behind r i) (a .base))) (first .last .0)))
+    ∙ (λ i. overwrite (place i) (flatten (rowTriangles (s .split) (s .round) (s .columns) (a .base + to-last r i) (a .base))) (first .last .0)))
     ∙ ap (λ (l : List ℕ). overwrite (a .at) l (now (a .out)))
     (sym (flatten-append rows row)
-    ∙ ap flatten (one-left (s .split) (s .round) (s .columns) (chainOf (s .along)) (s .rows) (a .base) k (ahead m) (omega arith)))
+    ∙ ap flatten (one-left (s .split) (s .round) (s .columns) (chainOf (s .ending)) (s .rows) (a .base) k (ahead m) (omega arith)))
 
 same-length-2 : tie.Need-same-length-2
 same-length-2 c = search needs
@@ -133,7 +134,7 @@ returns-2 c = let m = c .before .before .before .before .before in
     let s = a .s in
     c .before .before .before .write-rows .ensures
     ∙ ap (λ (ts : List Triangle). overwrite (a .at) (flatten ts) (now (a .out)))
-    (none-left (s .split) (s .round) (s .columns) (chainOf (s .along)) (s .rows) (a .base) (m .straight .result) (ahead m) (omega arith))
+    (none-left (s .split) (s .round) (s .columns) (chainOf (s .ending)) (s .rows) (a .base) (m .straight .result) (ahead m) (omega arith))
 
 pub write-grid-spec : {M : Type 1} → statement M
 write-grid-spec =

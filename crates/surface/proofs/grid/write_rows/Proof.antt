@@ -8,10 +8,11 @@ use borrow.Author.Needs.{needs}
 use denote.Ref.{now}
 use Rattle.laws.specs.Overwrite.{overwrite, overwrite-none}
 use Rattle.laws.specs.Blocks.{blocks}
+use Rattle.laws.specs.Parts.{part}
 use Rattle.surface.specs.Triangles.{flatten}
 use Rattle.surface.specs.Grid.{rowTriangles, gridTriangles}
 use Rattle.surface.specs.Whole.{ringSize}
-use Rattle.surface.specs.Raise.{stretch, copyOf, Below}
+use Rattle.surface.specs.Raise.{copyOf, Below}
 use Rattle.surface.specs.declared.grid.Chain.the-variants.{Open}
 use Rattle.surface.proofs.Rows.{firstRow, below-copy, first-read, rows-written}
 use Rattle.surface.proofs.grid.write_rows.Statement.{statement}
@@ -70,7 +71,7 @@ written c = let m = c .before .before .before in
 copied : (c : tie.After-write-row) → let m = c .before .before .before in
     let a = m .before .before .before .args in
     let s = a .s in
-    copyOf (m .ring-size .result) (stretch (a .at) (s .columns * 6) (c .write-row .last .0))
+    copyOf (m .ring-size .result) (part (a .at) (s .columns * 6) (c .write-row .last .0))
     ≡ copyOf (ringSize s) (firstRow (s .split) (s .round) (s .columns) (a .base))
 copied c = let m = c .before .before .before in
     let a = m .before .before .before .args in

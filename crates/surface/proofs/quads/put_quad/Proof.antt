@@ -1,4 +1,4 @@
--- Two writes, one behind the other, are one. Assumes nothing.
+-- Two writes, one after the other, are one. Assumes nothing.
 use mathlib.Core.Path.{_∙_, ap}
 use mathlib.Core.List.{List, []}
 use Prim.Native.Nat.{ℕ, _+_}

@@ -1,4 +1,4 @@
--- Each turn of the loop stores one raised number behind the last. Assumes nothing.
+-- Each turn of the loop stores one raised number after the last. Assumes nothing.
 use mathlib.Core.Path.{_≡_, refl, sym, ap, _∙_}
 use mathlib.Core.List.{List, [], _∷_}
 use Prim.Native.Nat.{ℕ, _+_, _-_, _^_, _≤_, _<_}
@@ -8,9 +8,10 @@ use lib.ListN.{length, getD, length-set, length-map}
 use Rattle.laws.specs.Places.{getD-map}
 use Rattle.laws.specs.Overwrite.{overwrite, overwrite-none, one-store}
 use Rattle.laws.specs.Blocks.{blocks, blocks-map, one-more, all-written}
-use Rattle.surface.specs.Raise.{stretch, raised}
+use Rattle.laws.specs.Parts.{part}
+use Rattle.surface.specs.Raise.{raised}
 use Rattle.surface.proofs.Below.{below-at}
-use Rattle.surface.proofs.Copies.{length-stretch, read-before}
+use Rattle.surface.proofs.Copies.{length-part, read-before}
 use Rattle.surface.proofs.raise.copy_raised.Statement.{statement}
 use Rattle.surface.proofs.raise.copy_raised.Tie as tie
 
@@ -20,7 +21,7 @@ here rise l i = (rise + getD l i 0) ∷ []
 
 abbrev Inv-loop : tie.InvT-loop
 Inv-loop out₀ at size rise from k₀ out k =
-    (out ≡ overwrite at (blocks k (here rise (stretch (at - size) size out₀))) out₀) × (k ≤ size) × (length out ≡ length out₀)
+    (out ≡ overwrite at (blocks k (here rise (part (at - size) size out₀))) out₀) × (k ≤ size) × (length out ≡ length out₀)
 
 abbrev μ-loop : tie.MeasureT-loop
 μ-loop out₀ at size rise from k₀ out k = size - k
@@ -29,22 +30,22 @@ abbrev μ-loop : tie.MeasureT-loop
 read : (c : tie.In-loop Inv-loop μ-loop) → let a = c .before .before .args in
     let from = a .at - a .size in
     let k = c .before .loop .k in
-    getD (c .before .loop .out) (from + k) 0 ≡ getD (stretch from (a .size) (now (a .out))) k 0
+    getD (c .before .loop .out) (from + k) 0 ≡ getD (part from (a .size) (now (a .out))) k 0
 read c = let a = c .before .before .args in
     let from = a .at - a .size in
     let l = c .before .loop in
     ap (λ (t : List ℕ). getD t (from + l .k) 0) (l .inv .0)
-    ∙ read-before (a .at) from (a .size) (l .k) (blocks (l .k) (here (a .rise) (stretch from (a .size) (now (a .out))))) (now (a .out)) (c .loop-test .taken)
+    ∙ read-before (a .at) from (a .size) (l .k) (blocks (l .k) (here (a .rise) (part from (a .size) (now (a .out))))) (now (a .out)) (c .loop-test .taken)
     (omega arith)
 
 -- and, raised, it is below the bound
 fits : (c : tie.In-loop Inv-loop μ-loop) → let a = c .before .before .args in
-    a .rise + getD (stretch (a .at - a .size) (a .size) (now (a .out))) (c .before .loop .k) 0 < 2 ^ 28
+    a .rise + getD (part (a .at - a .size) (a .size) (now (a .out))) (c .before .loop .k) 0 < 2 ^ 28
 fits c = let a = c .before .before .args in
     let p = c .before .before .pre in
     let k = c .before .loop .k in
-    let s = stretch (a .at - a .size) (a .size) (now (a .out)) in
-    let sized = length-stretch (a .at - a .size) (a .size) (now (a .out)) (omega arith) in
+    let s = part (a .at - a .size) (a .size) (now (a .out)) in
+    let sized = length-part (a .at - a .size) (a .size) (now (a .out)) (omega arith) in
     let h : k < length s = omega arith in
     let m : k < length (raised (a .rise) s) = omega (arith, length-map s (λ n. a .rise + n)) in
     omega (arith, getD-map (λ n. a .rise + n) s k 0 0 h, below-at (2 ^ 28) (raised (a .rise) s) k (p .numbers) m)
@@ -87,7 +88,7 @@ loop-again c = let a = c .before .before .before .args in
     let l = c .before .before .loop in
     let from = a .at - a .size in
     let v = a .rise + getD (l .out) (from + l .k) 0 in (
-      one-more (a .at) (l .k) 1 (here (a .rise) (stretch from (a .size) (now (a .out)))) (now (a .out)) (λ k h. refl) (l .inv .0) (omega arith)
+      one-more (a .at) (l .k) 1 (here (a .rise) (part from (a .size) (now (a .out)))) (now (a .out)) (λ k h. refl) (l .inv .0) (omega arith)
           (one-store (a .at + l .k) v (l .out)) (ap (λ (n : ℕ). (a .rise + n) ∷ []) (read (c .before))),
       omega arith,
       simp length-set (l .inv .2),
@@ -100,8 +101,8 @@ returns : tie.Need-returns Inv-loop μ-loop
 returns c = let a = c .before .before .args in
     let l = c .before .loop in
     let t₀ = now (a .out) in
-    let s = stretch (a .at - a .size) (a .size) t₀ in
-    let sized = length-stretch (a .at - a .size) (a .size) t₀ (omega arith) in
+    let s = part (a .at - a .size) (a .size) t₀ in
+    let sized = length-part (a .at - a .size) (a .size) t₀ (omega arith) in
     let end : l .k ≡ length s = omega arith in
     all-written (a .at) (here (a .rise) s) t₀ (l .inv .0) end ∙ ap (λ (v : List ℕ). overwrite (a .at) v t₀) (blocks-map (λ n. a .rise + n) s 0)
 

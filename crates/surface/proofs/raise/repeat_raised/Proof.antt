@@ -1,4 +1,4 @@
--- Each turn of the loop copies the last of the copies behind them all. Assumes nothing.
+-- Each turn of the loop writes copies of the last copies after them all. Assumes nothing.
 use mathlib.Core.Path.{_≡_, refl, sym, ap, _∙_, subst}
 use mathlib.Core.List.{List}
 use Prim.Native.Nat.{ℕ, _+_, _-_, _*_, _^_, _≤_, _<_}
@@ -9,15 +9,16 @@ use denote.Ref.{now}
 use lib.ListN.{length}
 use Rattle.laws.specs.Overwrite.{overwrite}
 use Rattle.laws.specs.Blocks.{blocks, all-written}
-use Rattle.surface.specs.Raise.{stretch, raised, copyOf, Below}
+use Rattle.laws.specs.Parts.{part}
+use Rattle.surface.specs.Raise.{raised, copyOf, Below}
 use Rattle.surface.proofs.Below.{below-blocks}
-use Rattle.surface.proofs.Copies.{length-stretch, stretch-kept, copy-none, next-copies, copies-behind}
+use Rattle.surface.proofs.Copies.{length-part, part-kept, copy-none, next-copies, copies-after}
 use Rattle.surface.proofs.raise.repeat_raised.Statement.{statement}
 use Rattle.surface.proofs.raise.repeat_raised.Tie as tie
 
 abbrev Inv-loop : tie.InvT-loop
 Inv-loop out₀ at size times rise place₀ done₀ out place done =
-    (out ≡ overwrite at (blocks done (copyOf rise (stretch at size out₀))) out₀)
+    (out ≡ overwrite at (blocks done (copyOf rise (part at size out₀))) out₀)
     × (place ≡ at + done * size)
     × (0 < done)
     × (done ≤ times)
@@ -44,16 +45,16 @@ room c = let a = c .before .before .before .before .args in
 next : (c : tie.After-at-once Inv-loop μ-loop) → let a = c .before .before .before .before .args in
     let l = c .before .before .loop in
     let count = c .at-once .result in
-    raised (count * a .rise) (stretch (l .place - count * a .size) (count * a .size) (l .out))
-    ≡ blocks count (λ k. copyOf (a .rise) (stretch (a .at) (a .size) (now (a .out))) (l .done + k))
+    raised (count * a .rise) (part (l .place - count * a .size) (count * a .size) (l .out))
+    ≡ blocks count (λ k. copyOf (a .rise) (part (a .at) (a .size) (now (a .out))) (l .done + k))
 next c = let a = c .before .before .before .before .args in
     let l = c .before .before .loop in
     let count = c .at-once .result in
     let t₀ = now (a .out) in
     let r = room c in
     let e : l .done - count + count ≡ l .done = omega arith in
-    next-copies (a .at) (a .size) (a .rise) (stretch (a .at) (a .size) t₀) t₀
-    (length-stretch (a .at) (a .size) t₀ (first (c .before .before .before .before)))
+    next-copies (a .at) (a .size) (a .rise) (part (a .at) (a .size) t₀) t₀
+    (length-part (a .at) (a .size) t₀ (first (c .before .before .before .before)))
     (l .done - count) count e (l .inv .0) (l .inv .1) (omega arith)
 
 add-place : tie.Need-add-place Inv-loop μ-loop
@@ -62,9 +63,9 @@ add-place c = omega (arith, first (c .before))
 loop-holds : tie.Need-loop-holds Inv-loop μ-loop
 loop-holds c = let a = c .before .args in
     let t₀ = now (a .out) in
-    let s = stretch (a .at) (a .size) t₀ in
+    let s = part (a .at) (a .size) t₀ in
     let p = c .before .pre in (
-      stretch-kept (a .at) (a .size) t₀ (first (c .before)) ∙ ap (λ (r : List ℕ). overwrite (a .at) r t₀) (sym (copy-none (a .rise) s)),
+      part-kept (a .at) (a .size) t₀ (first (c .before)) ∙ ap (λ (r : List ℕ). overwrite (a .at) r t₀) (sym (copy-none (a .rise) s)),
       omega arith,
       omega arith,
       omega arith,
@@ -88,7 +89,7 @@ copy-raised-requires c κs = let a = c .before .before .before .before .before .
     let l = c .before .before .before .loop in
     let count = c .before .at-once .result in
     let r = room (c .before) in
-    let f = copyOf (a .rise) (stretch (a .at) (a .size) (now (a .out))) in
+    let f = copyOf (a .rise) (part (a .at) (a .size) (now (a .out))) in
     record {
       before = omega (arith, mul-le-mul-right (a .size) (c .before .at-once .ensures .1));
       within = omega arith;
@@ -111,8 +112,8 @@ loop-again c = let m = c .before .before .before .before in
     let l = m .before .before .loop in
     let t₀ = now (a .out) in
     let copied = c .before .before .copy-raised in (
-      copies-behind (a .at) (a .size) (a .rise) (stretch (a .at) (a .size) t₀) t₀
-          (length-stretch (a .at) (a .size) t₀ (first (m .before .before .before .before)))
+      copies-after (a .at) (a .size) (a .rise) (part (a .at) (a .size) t₀) t₀
+          (length-part (a .at) (a .size) t₀ (first (m .before .before .before .before)))
           (l .done) (m .at-once .result) (l .inv .0) (l .inv .1) (copied .ensures) (next m),
       omega arith,
       omega arith,
@@ -128,7 +129,7 @@ returns c = let a = c .before .before .before .args in
     let l = c .before .loop in
     let t₀ = now (a .out) in
     let end : l .done ≡ a .times = omega arith in
-    all-written (a .at) (copyOf (a .rise) (stretch (a .at) (a .size) t₀)) t₀ (l .inv .0) end
+    all-written (a .at) (copyOf (a .rise) (part (a .at) (a .size) t₀)) t₀ (l .inv .0) end
 
 pub repeat-raised-spec : {M : Type 1} → statement M
 repeat-raised-spec =

@@ -4,7 +4,8 @@ use mathlib.Core.List.{[], _∷_}
 use denote.Ref.{now}
 use lib.ListN.{set}
 use Rattle.laws.specs.Overwrite.{one-store, written-behind}
-use Rattle.descriptions.specs.Answers.{numberIn, countedAnswer}
+use Rattle.answers.specs.Answers.{numberIn}
+use Rattle.descriptions.specs.Answers.{countedAnswer}
 use borrow.Author.Needs.{needs}
 use Rattle.togbefulo.proofs.alone.put_counts.Statement.{statement}
 use Rattle.togbefulo.proofs.alone.put_counts.Tie as tie

@@ -1,7 +1,7 @@
 -- A known kind answers as its description does. Assumes nothing.
 use mathlib.Core.Path.{sym, ap, _∙_}
 use denote.Ref.{now}
-use Rattle.descriptions.specs.Answers.{numberIn}
+use Rattle.answers.specs.Answers.{numberIn}
 use Rattle.togbefulo.specs.Face.{checkNumber}
 use borrow.Author.Needs.{needs}
 use Rattle.togbefulo.proofs.alone.togbefulo_check.Statement.{statement}

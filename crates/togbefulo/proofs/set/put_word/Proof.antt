@@ -3,7 +3,7 @@ use mathlib.Core.Path.{sym, ap}
 use borrow.Author.Needs.{needs}
 use denote.Ref.{now}
 use Rattle.laws.specs.Overwrite.{one-store}
-use Rattle.descriptions.specs.Answers.{numberIn}
+use Rattle.answers.specs.Answers.{numberIn}
 use Rattle.set_file.specs.Answers.{wordAnswer}
 use Rattle.togbefulo.proofs.set.put_word.Statement.{statement}
 use Rattle.togbefulo.proofs.set.put_word.Tie as tie

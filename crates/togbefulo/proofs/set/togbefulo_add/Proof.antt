@@ -2,7 +2,7 @@
 use mathlib.Core.Path.{sym, ap, _∙_}
 use borrow.Author.Needs.{needs}
 use denote.Ref.{now}
-use Rattle.descriptions.specs.Answers.{numberIn}
+use Rattle.answers.specs.Answers.{numberIn}
 use Rattle.set_table.specs.Buffers.{Buffers, buffers}
 use Rattle.togbefulo.specs.SetFace.{addedAs}
 use Rattle.togbefulo.proofs.set.togbefulo_add.Statement.{statement}

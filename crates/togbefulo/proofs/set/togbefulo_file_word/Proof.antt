@@ -2,7 +2,7 @@
 use mathlib.Core.Path.{ap, _∙_}
 use borrow.Author.Needs.{needs}
 use denote.Ref.{now}
-use Rattle.descriptions.specs.Answers.{numberIn}
+use Rattle.answers.specs.Answers.{numberIn}
 use Rattle.togbefulo.specs.SetFace.{wordAfter}
 use Rattle.togbefulo.proofs.set.togbefulo_file_word.Statement.{statement}
 use Rattle.togbefulo.proofs.set.togbefulo_file_word.Tie as tie

@@ -1,4 +1,5 @@
--- `curve::Carried::first` meets its contract: the call gives what the definition names. Assumes nothing.
+-- `curve::Carried::first` meets its contract: the call gives what the definition names. Assumes
+-- nothing.
 use borrow.Author.Needs.{needs}
 use Rattle.curve.specs.Framex.{carriedOn}
 use Rattle.curve.proofs.framex.Carried.first.Statement.{statement}

@@ -1,4 +1,5 @@
--- `curve::Carried::next` meets its contract: the call gives what the definition names. Assumes nothing.
+-- `curve::Carried::next` meets its contract: the call gives what the definition names. Assumes
+-- nothing.
 use borrow.Author.Needs.{needs}
 use Rattle.curve.specs.Framex.{carriedTo}
 use Rattle.curve.proofs.framex.Carried.next.Statement.{statement}

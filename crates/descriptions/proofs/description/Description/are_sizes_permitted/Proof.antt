@@ -56,8 +56,10 @@ returns-5 c =
     (passed (c .before .before .is-size-permitted5 .ensures) (c .before .if1 .taken) (c .is-size-permitted6 .ensures))
 
 returns-6 : tie.Need-returns-6
-returns-6 c = let sizes = c .before .before .before .self5 .given .0 .1 .1 .1 in
-    rw (c .before .before .before .self5 .given .1) (failed (sizePermitted (sizes .1 .0)) (c .before .is-size-permitted5 .ensures) (c .if1 .left))
+returns-6 c =
+    let cylinder = c .before .before .before .self5 .given in
+    let length = cylinder .0 .1 .1 .1 .1 .0 in
+    rw (cylinder .1) (failed (sizePermitted length) (c .before .is-size-permitted5 .ensures) (c .if1 .left))
 
 pub are-sizes-permitted-spec : {M : Type 1} → statement M
 are-sizes-permitted-spec =

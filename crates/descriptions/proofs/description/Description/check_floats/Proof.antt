@@ -1,11 +1,34 @@
--- Three tests, one behind the other. Assumes nothing.
-use mathlib.Core.Path.{_∙_}
+-- Three tests, one after the other. Assumes nothing.
+use mathlib.Core.Path.{_≡_, _∙_}
+use mathlib.Core.Bool.{true}
+use denote.Ref.{now}
+use Rattle.float32.specs.Scan.{allFinite}
 use Rattle.curve.specs.Checks.{segmentsPermitted}
-use Rattle.descriptions.proofs.FirstOf.{permits, refuses}
-use Rattle.descriptions.proofs.Checked.{along}
+use Rattle.answers.proofs.FirstOf.{permits, refuses}
+use Rattle.descriptions.specs.Refusals.{curveSegmentsPermitted, sizesPermitted}
 use borrow.Author.Needs.{needs}
 use Rattle.descriptions.proofs.description.Description.check_floats.Statement.{statement}
 use Rattle.descriptions.proofs.description.Description.check_floats.Tie as tie
+
+-- what was passed before the second test, and before the third
+sizes : (c : tie.After-are-finite) → sizesPermitted (c .before .before .before .before .args .self) ≡ true
+sizes c = permits (c .before .before .are-sizes-permitted .ensures) (c .before .if1 .left)
+
+finite : (c : tie.After-chain) → let a = c .before .before .before .before .before .before .args in
+    allFinite (now (a .curve)) ≡ true
+finite c = permits (c .before .before .are-finite .ensures) (c .before .if2 .left)
+
+-- the third test, over the description's own chain and number of segments
+abbrev start : tie.After-segment-count → tie.Start
+start m = m .before .before .before .before .before .before .before
+
+tested : (c : tie.After-are-segments-permitted) → let a = start (c .before) .args in
+    c .are-segments-permitted .result ≡ curveSegmentsPermitted (a .self) (now (a .curve))
+tested c =
+    let m = c .before in
+    let curve = now (start m .args .curve) in
+    c .are-segments-permitted .ensures
+    ∙ (λ j. segmentsPermitted (m .before .chain .ensures j) (m .segment-count .ensures j) curve)
 
 are-sizes-permitted-requires : tie.Need-are-sizes-permitted-requires
 are-sizes-permitted-requires c κs = search needs
@@ -17,9 +40,7 @@ are-finite-requires : tie.Need-are-finite-requires
 are-finite-requires c κs = search needs
 
 returns-2 : tie.Need-returns-2
-returns-2 c =
-    let sizes = permits (c .before .before .before .are-sizes-permitted .ensures) (c .before .before .if1 .left) in
-    rw (sizes, refuses (c .before .are-finite .ensures) (c .if2 .taken))
+returns-2 c = rw (sizes (c .before), refuses (c .before .are-finite .ensures) (c .if2 .taken))
 
 chain-requires : tie.Need-chain-requires
 chain-requires c κs = search needs
@@ -32,21 +53,13 @@ are-segments-permitted-requires c κs = search needs
 
 returns-3 : tie.Need-returns-3
 returns-3 c =
-    let counted = c .before .before in
-    let curve = counted .before .before .before .before .before .before .before .args .curve .now in
-    let sizes = permits (counted .before .before .before .before .before .are-sizes-permitted .ensures) (counted .before .before .before .before .if1 .left) in
-    let finite = permits (counted .before .before .before .are-finite .ensures) (counted .before .before .if2 .left) in
-    let segments = along segmentsPermitted curve (counted .before .chain .ensures) (counted .segment-count .ensures) in
-    rw (sizes, finite, refuses (c .before .are-segments-permitted .ensures ∙ segments) (c .if3 .taken))
+    let chain = c .before .before .before in
+    rw (sizes (chain .before .before), finite chain, refuses (tested (c .before)) (c .if3 .taken))
 
 returns-4 : tie.Need-returns-4
 returns-4 c =
-    let counted = c .before .before in
-    let curve = counted .before .before .before .before .before .before .before .args .curve .now in
-    let sizes = permits (counted .before .before .before .before .before .are-sizes-permitted .ensures) (counted .before .before .before .before .if1 .left) in
-    let finite = permits (counted .before .before .before .are-finite .ensures) (counted .before .before .if2 .left) in
-    let segments = along segmentsPermitted curve (counted .before .chain .ensures) (counted .segment-count .ensures) in
-    rw (sizes, finite, permits (c .before .are-segments-permitted .ensures ∙ segments) (c .if3 .left))
+    let chain = c .before .before .before in
+    rw (sizes (chain .before .before), finite chain, permits (tested (c .before)) (c .if3 .left))
 
 pub check-floats-spec : {M : Type 1} → statement M
 check-floats-spec =

@@ -1,4 +1,5 @@
--- What the shape is refused for, it is refused for; otherwise the answer is left to the tests of the floats. Assumes nothing.
+-- A refusal of the shape stands; otherwise the answer is left to the tests of the floats. Assumes
+-- nothing.
 use mathlib.Core.Path.{ap, _∙_}
 use Prim.Native.Nat.{_%_, _/_}
 use lib.ListN.{length}
@@ -6,7 +7,7 @@ use borrow.Author.Tests.{eq-eqb, ne-eqb}
 use Rattle.kinds.specs.declared.topology.Topology.{Topology}
 use Rattle.descriptions.specs.Descriptions.{topologyOf}
 use Rattle.descriptions.specs.Refusals.{shapeTests, floatTests, floatsOf}
-use Rattle.descriptions.proofs.FirstOf.{accepted-by, refused-by, passed-by}
+use Rattle.answers.proofs.FirstOf.{accepted-by, refused-by, passed-by}
 use borrow.Author.Needs.{needs}
 use Rattle.descriptions.proofs.description.Description.check_segments.Statement.{statement}
 use Rattle.descriptions.proofs.description.Description.check_segments.Tie as tie
@@ -36,9 +37,10 @@ returns-2 c =
     let a = c .before .before .before .before .before .before .args in
     let curve = a .curve .now in
     let N = length curve / 3 in
-    let shape = rw (c .before .why .given .1) at (c .before .before .before .shape .ensures) in
+    let t = topologyOf (a .self) N in
+    let refusal = rw (c .before .why .given .1) at (c .before .before .before .shape .ensures) in
     rw (eq-eqb (length curve % 3) 0 (c .before .before .before .before .if1 .left))
-    (refused-by (shapeTests (a .self) N) (floatTests (a .self) curve) (topologyOf (a .self) N) (topologyOf (a .self) N) shape)
+    (refused-by (shapeTests (a .self) N) (floatTests (a .self) curve) t t refusal)
 
 returns-3 : tie.Need-returns-3
 returns-3 c =

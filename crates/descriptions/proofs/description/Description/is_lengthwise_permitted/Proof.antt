@@ -39,8 +39,10 @@ returns-2 : tie.Need-returns-2
 returns-2 c = search needs
 
 returns-3 : tie.Need-returns-3
-returns-3 c = let capsule = c .before .before .before .self .given in
-    rw (capsule .1) (c .are-longitudes-permitted .ensures ∙ ap (longitudesPermitted (capsule .0 .1 .0)) (c .before .segment-count .ensures))
+returns-3 c =
+    let capsule = c .before .before .before .self .given in
+    let segments = ap (longitudesPermitted (capsule .0 .1 .0)) (c .before .segment-count .ensures) in
+    rw (capsule .1) (c .are-longitudes-permitted .ensures ∙ segments)
 
 returns-4 : tie.Need-returns-4
 returns-4 c = search needs

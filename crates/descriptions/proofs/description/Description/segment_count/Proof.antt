@@ -1,4 +1,5 @@
--- No vertex has no segment; otherwise the chain tells, and at most 4,096 fits. Assumes nothing.
+-- Without a vertex there is no segment; otherwise the chain tells, and at most 4,096 fits. Assumes
+-- nothing.
 use mathlib.Core.Path.{_≡_, refl, sym, _∙_}
 use Prim.Native.Nat.{ℕ}
 use native.Mathlib.Omega.{arith}

@@ -1,4 +1,5 @@
--- Each answer is what `longitudesPermitted` computes to under the tests that led there. Assumes nothing.
+-- Each answer is what `longitudesPermitted` computes to under the tests that led there.
+-- Assumes nothing.
 use borrow.Author.Tests.{le-leb, lt-leb}
 use borrow.Author.Needs.{needs}
 use Rattle.kinds.proofs.capsule.Capsule.are_longitudes_permitted.Statement.{statement}

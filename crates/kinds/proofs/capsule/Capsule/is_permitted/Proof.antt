@@ -1,23 +1,25 @@
--- Three tests, one behind the other. Assumes nothing.
-use mathlib.Core.Path.{sym, _∙_}
-use mathlib.Core.Bool.{_&&_}
-use Rattle.kinds.specs.Limits.{segmentCountPermitted, longitudesPermitted}
+-- Two tests, the second where the first passed; the first has two of the definition's three.
+-- Assumes nothing.
+use mathlib.Core.Path.{_≡_, _∙_}
+use mathlib.Core.Bool.{Bool, _&&_, and-assoc}
+use Rattle.kinds.specs.Limits.{divisionsPermitted, segmentCountPermitted, longitudesPermitted}
+use Rattle.kinds.specs.Kinds.{permitted}
+use Rattle.kinds.specs.declared.capsule.Capsule as Capsules
+use Rattle.kinds.specs.declared.topology.Topology.the-variants.{Capsule}
 use Rattle.kinds.proofs.Answers.{passed, failed}
 use borrow.Author.Needs.{needs}
 use Rattle.kinds.proofs.capsule.Capsule.is_permitted.Statement.{statement}
 use Rattle.kinds.proofs.capsule.Capsule.is_permitted.Tie as tie
 
-cast-is-between : tie.Need-cast-is-between
-cast-is-between c = search needs
+abbrev within : Capsules.Capsule → Bool
+within k = divisionsPermitted (k .divisions) && segmentCountPermitted (k .segments)
 
-is-between-requires : tie.Need-is-between-requires
-is-between-requires c κs = search needs
+regroup : (k : Capsules.Capsule) → within k && longitudesPermitted (k .longitudes) (k .segments) ≡ permitted (Capsule k)
+regroup k =
+    and-assoc (divisionsPermitted (k .divisions)) (segmentCountPermitted (k .segments)) (longitudesPermitted (k .longitudes) (k .segments))
 
-cast-is-between-2 : tie.Need-cast-is-between-2
-cast-is-between-2 c = search needs
-
-is-between-requires-2 : tie.Need-is-between-requires-2
-is-between-requires-2 c κs = search needs
+are-within-requires : tie.Need-are-within-requires
+are-within-requires c κs = search needs
 
 cast-are-longitudes-permitted : tie.Need-cast-are-longitudes-permitted
 cast-are-longitudes-permitted c = search needs
@@ -26,29 +28,19 @@ are-longitudes-permitted-requires : tie.Need-are-longitudes-permitted-requires
 are-longitudes-permitted-requires c κs = search needs
 
 returns : tie.Need-returns
-returns c = passed (c .before .before .before .before .before .before .is-between .ensures) (c .before .before .before .before .before .if1 .taken)
-    (passed (c .before .before .before .is-between2 .ensures) (c .before .before .if2 .taken) (c .are-longitudes-permitted .ensures))
+returns c = let t = c .before .before in
+    passed (t .before .are-within .ensures) (t .if1 .taken) (c .are-longitudes-permitted .ensures) ∙ regroup (t .before .before .args .self)
 
 returns-2 : tie.Need-returns-2
-returns-2 c = let k = c .before .before .before .before .before .before .args .self in
-    passed (c .before .before .before .before .is-between .ensures) (c .before .before .before .if1 .taken)
-    (failed (longitudesPermitted (k .longitudes) (k .segments)) (c .before .is-between2 .ensures) (c .if2 .left))
-
-returns-3 : tie.Need-returns-3
-returns-3 c = let k = c .before .before .before .args .self in
-    sym (c .if1 .left)
-    ∙ failed (segmentCountPermitted (k .segments) && longitudesPermitted (k .longitudes) (k .segments)) (c .before .is-between .ensures) (c .if1 .left)
+returns-2 c = let k = c .before .before .args .self in
+    failed (longitudesPermitted (k .longitudes) (k .segments)) (c .before .are-within .ensures) (c .if1 .left) ∙ regroup k
 
 pub is-permitted-spec : {M : Type 1} → statement M
 is-permitted-spec =
     tie.close
     (tie.spec
-    cast-is-between
-    is-between-requires
-    cast-is-between-2
-    is-between-requires-2
+    are-within-requires
     cast-are-longitudes-permitted
     are-longitudes-permitted-requires
     returns
-    returns-2
-    returns-3)
+    returns-2)

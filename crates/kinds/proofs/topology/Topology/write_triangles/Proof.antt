@@ -6,10 +6,10 @@ use denote.Ref.{now}
 use lib.ListN.{length}
 use Rattle.surface.specs.Triangles.{Triangle, flatten}
 use Rattle.laws.specs.Overwrite.{placed}
-use Rattle.surface.specs.Whole.{surfaceTriangles, fits}
+use Rattle.surface.specs.Whole.{surfaceTriangles, placeable}
 use Rattle.surface.specs.declared.whole.Surface.{Surface}
 use Rattle.kinds.specs.Kinds.{permitted}
-use Rattle.kinds.proofs.AsSurface.{as-surface, fits-writable, not-writable}
+use Rattle.kinds.proofs.AsSurface.{as-surface, placeable-writable, not-writable}
 use borrow.Author.Needs.{needs}
 use Rattle.kinds.proofs.topology.Topology.write_triangles.Statement.{statement}
 use Rattle.kinds.proofs.topology.Topology.write_triangles.Tie as tie
@@ -31,7 +31,7 @@ returns c = let a = c .before .before .before .before .before .before .before .b
     let w = c .before .before .write-triangles in
     let s = c .before .before .before .before .surface .ensures in
     let p : permitted (a .self) ≡ true = sym (c .before .before .before .before .before .before .is-permitted .ensures) ∙ c .before .before .before .before .before .if1 .taken in (
-      w .ensures .0 ∙ ap (λ (x : Surface). fits x (a .first) (length (now (a .out)))) s ∙ fits-writable (a .self) (a .first) (length (now (a .out))) p,
+      w .ensures .0 ∙ ap (λ (x : Surface). placeable x (a .first) (length (now (a .out)))) s ∙ placeable-writable (a .self) (a .first) (length (now (a .out))) p,
       w .ensures .1
           ∙ ap (λ (x : Surface). placed (w .result) (flatten (surfaceTriangles x (a .first))) (now (a .out))) s
           ∙ ap (λ (l : List Triangle). placed (w .result) (flatten l) (now (a .out))) (sym (as-surface (a .self) (a .first))),

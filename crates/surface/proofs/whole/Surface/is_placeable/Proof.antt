@@ -1,12 +1,13 @@
--- The two tests are those of `fits`. Assumes nothing.
+-- The two tests are those of `placeable`. Assumes nothing.
 use mathlib.Core.Path.{ap, _∙_}
-use Prim.Native.Nat.{ℕ, _+_, _*_, _^_, _≤_, _<_}
+use Prim.Native.Nat.{ℕ, _+_, _^_, _≤_, _<_}
 use native.Mathlib.Omega.{arith}
 use borrow.Author.Needs.{needs}
 use borrow.Author.Tests.{le-leb, lt-leb}
 use lib.Dec.{leb}
-use Rattle.surface.specs.Whole.{surfaceVertexCount, fits}
-use Rattle.surface.proofs.Counts.{few-vertices, few-triangles}
+use Rattle.surface.specs.Limits.{fits}
+use Rattle.surface.specs.Whole.{surfaceVertexCount, placeable}
+use Rattle.surface.proofs.Counts.{few-vertices}
 use Rattle.surface.proofs.whole.Surface.is_placeable.Statement.{statement}
 use Rattle.surface.proofs.whole.Surface.is_placeable.Tie as tie
 
@@ -19,17 +20,19 @@ add-if1 c = omega (arith, few-vertices (c .before .args .self) (omega arith) (om
 triangle-count-requires : tie.Need-triangle-count-requires
 triangle-count-requires c κs = search needs
 
-mul-result : tie.Need-mul-result
-mul-result c = omega (arith, few-triangles (c .before .before .before .args .self) (omega arith) (omega arith))
+fits-requires : tie.Need-fits-requires
+fits-requires c κs = search needs
 
 returns : tie.Need-returns
-unfolding fits
-returns c = let a = c .before .before .before .args in
+unfolding placeable
+returns c = let a = c .before .before .before .before .args in
     let below : a .first + surfaceVertexCount (a .self) ≤ 2 ^ 28 = omega arith in
-    rw (le-leb (a .first + surfaceVertexCount (a .self)) (2 ^ 28) below) (ap (λ (k : ℕ). leb (3 * k) (a .room)) (c .triangle-count .ensures))
+    c .fits2 .ensures
+    ∙ ap (λ (k : ℕ). fits k (a .room)) (c .before .triangle-count .ensures)
+    ∙ rw (le-leb (a .first + surfaceVertexCount (a .self)) (2 ^ 28) below)
 
 returns-2 : tie.Need-returns-2
-unfolding fits
+unfolding placeable
 returns-2 c = let a = c .before .before .args in
     let above : 2 ^ 28 < a .first + surfaceVertexCount (a .self) = omega arith in
     ap (λ (k : ℕ). leb (a .first + k) (2 ^ 28)) (c .before .vertex-count .ensures)
@@ -38,4 +41,4 @@ returns-2 c = let a = c .before .before .args in
 pub is-placeable-spec : {M : Type 1} → statement M
 is-placeable-spec =
     tie.close
-    (tie.spec vertex-count-requires add-if1 triangle-count-requires mul-result returns returns-2)
+    (tie.spec vertex-count-requires add-if1 triangle-count-requires fits-requires returns returns-2)
