@@ -32,11 +32,8 @@ pub(crate) fn fill(
     requires { ⌜ segmentCount description (length (now curve) / 3) * 3 ≤ length (now ez) ⌝ }
     ensures { λ _. ⌜ now (out .exit) ≡ overwrite 0 (verticesOf description (now (curve .entry))) (now (out .entry)) ⌝ }
 {
-    let count = curve.len() / 3;
     match description {
-        Description::Ribbon { width } => {
-            to_trimesh3_ribbon(out, curve, directions, (count - 1) as u16, width)
-        },
+        Description::Ribbon { width } => { to_trimesh3_ribbon(out, curve, directions, width) },
         Description::Tube {
             divisions: n,
             radius,
@@ -46,7 +43,6 @@ pub(crate) fn fill(
                 curve,
                 directions,
                 ez,
-                (count - 1) as u16,
                 n as u16,
                 radius,
             )
@@ -55,22 +51,11 @@ pub(crate) fn fill(
             divisions: n,
             longitudes: l,
             radius,
-        } => {
-            to_trimesh3_capsule(
-                out,
-                curve,
-                directions,
-                ez,
-                (count - 1) as u16,
-                n as u16,
-                l as u16,
-                radius,
-            )
-        }
+        } => { to_trimesh3_capsule(out, curve, directions, ez, n as u16, l as u16, radius) }
         Description::Torus {
             divisions: n,
             radius,
-        } => { to_trimesh3_torus(out, curve, directions, count as u16, n as u16, radius) }
+        } => { to_trimesh3_torus(out, curve, directions, n as u16, radius) }
         Description::ClosedCylinder {
             divisions: n,
             layers,

@@ -37,23 +37,27 @@ module _ (at n : ℕ) (point : ℕ → Point) (t₀ : List Float) where
     z = coordinate k 2 {q = q + 2} room h (omega arith) (omega arith) i;
   }
 
-module _ (n : ℕ) {cosines sines : List Float} (turns : Turns n cosines sines) where
+module _ (n : ℕ) {table : List Float} (turns : Turns n table) where
   -- direction i, read at its place
-  pub direction-at : (i : ℕ) {k : ℕ} → i < n → k ≡ i * 3 → pair (getD cosines k nan) (getD sines k nan) ≡ turnOf i n
+  pub direction-at : (i : ℕ) {k : ℕ} → i < n → k ≡ i * 3 → pair (getD table k nan) (getD table (768 + k) nan) ≡ turnOf i n
   unfolding thrice
   direction-at i h is =
-      λ j. pair ((ap (λ (k : ℕ). getD cosines k nan) is ∙ ap (λ (p : Point). p .x) (turns .cosine i h)) j)
-      ((ap (λ (k : ℕ). getD sines k nan) is ∙ ap (λ (p : Point). p .x) (turns .sine i h)) j)
+      λ j. pair ((ap (λ (k : ℕ). getD table k nan) is ∙ ap (λ (p : Point). p .x) (turns .cosine i h)) j)
+      ((ap (λ (k : ℕ). getD table (768 + k) nan) is ∙ ap (λ (p : Point). p .x) (turns .sine i h)) j)
 
-module _ (ring : Ring) (n : ℕ) {cosines sines : List Float} (turns : Turns n cosines sines) where
+module _ (ring : Ring) (n : ℕ) {table : List Float} (turns : Turns n table) where
   -- the vertex of a ring in direction i, read at its place
-  pub vertex-at : (i : ℕ) {k : ℕ} → i < n → k ≡ i * 3
-      → inOrder (ring .order) ring (pointAt cosines k) (pointAt sines k) ≡ ringVertex ring (turnOf i n)
-  vertex-at i h is = λ j. inOrder (ring .order) ring ((ap (pointAt cosines) is ∙ turns .cosine i h) j) ((ap (pointAt sines) is ∙ turns .sine i h) j)
+  pub vertex-at : (i : ℕ) {k k′ : ℕ} → i < n → k ≡ i * 3 → k′ ≡ 768 + i * 3
+      → inOrder (ring .order) ring (pointAt table k) (pointAt table k′) ≡ ringVertex ring (turnOf i n)
+  vertex-at i h is is′ =
+      λ j. inOrder (ring .order) ring ((ap (pointAt table) is ∙ turns .cosine i h) j) ((ap (pointAt table) is′ ∙ turns .sine i h) j)
 
   -- and of four directions from i on
   pub four-vertices : (i : ℕ) {k : ℕ} → i + 4 ≤ n → k ≡ i * 3
-      → fourCoordinates (fourOf (inOrder (ring .order) ring) (fourIn cosines k) (fourIn sines k)) ≡ blocks 4 (λ j. vertexOn (ringVertex ring) n (i + j))
+      → fourCoordinates (fourOf (inOrder (ring .order) ring) (fourIn table k) (fourIn table (768 + k)))
+      ≡ blocks 4 (λ j. vertexOn (ringVertex ring) n (i + j))
   four-vertices i {k} h is =
-      λ j. ((coordinates (vertex-at (i + 0) {k = k} (omega arith) (omega arith) j) ++ coordinates (vertex-at (i + 1) {k = k + 3} (omega arith) (omega arith) j))
-      ++ coordinates (vertex-at (i + 2) {k = k + 6} (omega arith) (omega arith) j)) ++ coordinates (vertex-at (i + 3) {k = k + 9} (omega arith) (omega arith) j)
+      λ j. ((coordinates (vertex-at (i + 0) {k = k} {k′ = 768 + k} (omega arith) (omega arith) (omega arith) j)
+      ++ coordinates (vertex-at (i + 1) {k = k + 3} {k′ = 768 + k + 3} (omega arith) (omega arith) (omega arith) j))
+      ++ coordinates (vertex-at (i + 2) {k = k + 6} {k′ = 768 + k + 6} (omega arith) (omega arith) (omega arith) j))
+      ++ coordinates (vertex-at (i + 3) {k = k + 9} {k′ = 768 + k + 9} (omega arith) (omega arith) (omega arith) j)

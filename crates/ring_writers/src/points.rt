@@ -3,8 +3,8 @@ ghost use Prim.Native.Nat.{_+_, _≤_};
 ghost use lib.ListN.{length};
 ghost use Rattle.laws.specs.Overwrite.{overwrite};
 ghost use Rattle.vec3.specs.Points.{coordinates};
-ghost use Rattle.curve.specs.Segments.{pointAt};
 ghost use Rattle.ring_writers.specs.Tables.{fourIn, fourCoordinates};
+use curve::point;
 use rings::Four;
 use vec3::Point;
 
@@ -18,18 +18,6 @@ pub fn put_point(out: &mut [f32], at: usize, p: Point)
     out[at + 2] = p.z;
 }
 
-// Reads the point whose coordinates begin at index `k`.
-pub fn point(table: &[f32], k: usize) -> Point
-    requires { ⌜ k + 3 ≤ length (now table) ⌝ }
-    ensures { λ r. ⌜ r ≡ pointAt (now (table .entry)) k ⌝ }
-{
-    Point {
-        x: table[k],
-        y: table[k + 1],
-        z: table[k + 2],
-    }
-}
-
 // Writes four points one after the other, from index `at` on.
 pub(crate) fn put_four(out: &mut [f32], at: usize, q: Four)
     requires { ⌜ at + 12 ≤ length (now out) ⌝ }
@@ -41,15 +29,15 @@ pub(crate) fn put_four(out: &mut [f32], at: usize, q: Four)
     put_point(out, at + 9, q.fourth);
 }
 
-// Reads four points that stand one after the other, from index `k` on.
-pub(crate) fn four_at(table: &[f32], k: usize) -> Four
-    requires { ⌜ k + 12 ≤ length (now table) ⌝ }
-    ensures { λ r. ⌜ r ≡ fourIn (now (table .entry)) k ⌝ }
+// Reads four points that stand one after the other, from index `at` on.
+pub(crate) fn four_at(table: &[f32], at: usize) -> Four
+    requires { ⌜ at + 12 ≤ length (now table) ⌝ }
+    ensures { λ r. ⌜ r ≡ fourIn (now (table .entry)) at ⌝ }
 {
     Four {
-        first: point(table, k),
-        second: point(table, k + 3),
-        third: point(table, k + 6),
-        fourth: point(table, k + 9),
+        first: point(table, at),
+        second: point(table, at + 3),
+        third: point(table, at + 6),
+        fourth: point(table, at + 9),
     }
 }

@@ -17,28 +17,26 @@ fn low(centred: bool, height: f32) -> f32
     if centred { -height * 0.5 } else { 0.0 }
 }
 
-// Writes the rings 0 to `layers`, from the bottom up, from index `at` on.
+// Writes the rings 0 to `layers`, from the bottom up, to the front of `out`.
 fn write_levels(
     out: &mut [f32],
-    at: usize,
     radius: f32,
     low: f32,
     height: f32,
     layers: u16,
     n: u16,
-    cosines: &[f32],
-    sines: &[f32],
+    turns: &[f32],
 )
-    requires { ⌜ (layers ≤ 4096) × (at + (layers + 1) * (n * 3) ≤ length (now out)) × Turns n (now cosines) (now sines) ⌝ }
-    ensures { λ _. ⌜ now (out .exit) ≡ overwrite at (cylinderRings radius low height layers n) (now (out .entry)) ⌝ }
+    requires { ⌜ (layers ≤ 4096) × ((layers + 1) * (n * 3) ≤ length (now out)) × Turns n (now turns) ⌝ }
+    ensures { λ _. ⌜ now (out .exit) ≡ overwrite 0 (cylinderRings radius low height layers n) (now (out .entry)) ⌝ }
 {
     let step = height / layers as f32;
     let size = n as usize * 3;
-    let mut place = at;
+    let mut place: usize = 0;
     let mut g: u16 = 0;
     while g <= layers {
         let y = low + step * g as f32;
-        write_level(out, place, radius, y, n as usize, cosines, sines);
+        write_level(out, place, radius, y, n as usize, turns);
         place += size;
         g += 1;
     }
@@ -56,28 +54,21 @@ pub fn cylinder_closed_end_yup(
     requires { ⌜ (n ≤ 256) × (layers ≤ 4096) × ((layers + 1) * (n * 3) + 6 ≤ length (now out)) ⌝ }
     ensures { λ _. ⌜ now (out .exit) ≡ overwrite 0 (cylinderVertices radius height n layers centred) (now (out .entry)) ⌝ }
 {
-    let mut cosines = [0.0f32; TURN_FLOATS];
-    let mut sines = [0.0f32; TURN_FLOATS];
-    fill_turns(n, &mut cosines, &mut sines);
+    let mut turns = [0.0f32; TURN_FLOATS];
+    fill_turns(n, &mut turns);
     let low = low(centred, height);
     let top = 3 + (layers as usize + 1) * (n as usize * 3);
-    put_point(
-        out,
-        0,
-        Point {
-            x: 0.0,
-            y: low,
-            z: 0.0,
-        },
-    );
-    write_levels(out, 3, radius, low, height, layers, n, &cosines, &sines);
-    put_point(
-        out,
-        top,
-        Point {
-            x: 0.0,
-            y: low + height,
-            z: 0.0,
-        },
-    );
+    let bottom_pole = Point {
+        x: 0.0,
+        y: low,
+        z: 0.0,
+    };
+    put_point(out, 0, bottom_pole);
+    write_levels(&mut out[3..], radius, low, height, layers, n, &turns);
+    let top_pole = Point {
+        x: 0.0,
+        y: low + height,
+        z: 0.0,
+    };
+    put_point(out, top, top_pole);
 }

@@ -1,6 +1,4 @@
 -- The axes at a vertex of a curve (document 01, 'Frames and vertices'). Definitions only.
-use Rattle.surface.specs.declared.grid.Chain.{Chain}
-use Rattle.surface.specs.declared.grid.Chain.the-variants.{Open, Closed}
 use Rattle.vec3.specs.Points.{sumOf, crossOf, normalised}
 use Rattle.vec3.specs.declared.points.Point.{Point}
 use Rattle.vec3.specs.declared.frames.Frame.{Frame}
@@ -10,8 +8,7 @@ use Rattle.rings.specs.declared.axes.Axes.{Axes}
 unfoldable pub axesAt : Point → Frame → Point → Axes
 axesAt p frame ez = record { origin = p; ex = frame .ex; ey = crossOf ez (frame .ex); ez = ez }
 
--- ez between segments along u and w: "inside the normalised sum of the two normalised segments"; of a torus "the segment leaving the
--- vertex", normalised
-abbrev pub betweenOf : Chain → Point → Point → Point
-betweenOf Open u w = normalised (sumOf u w)
-betweenOf Closed u w = w
+-- ez at a vertex of an open curve between segments along u and w: "inside the normalised sum of the
+-- two normalised segments"
+unfoldable pub betweenOf : Point → Point → Point
+betweenOf u w = normalised (sumOf u w)

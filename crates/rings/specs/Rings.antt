@@ -1,11 +1,9 @@
--- Rings as values, and the vertex of a ring in a direction: the formulas of document 01, 'Frames and vertices', as Vertices.antt quotes
--- them, over a centre and a radius. Definitions only.
+-- Rings as values, and the vertex of a ring in a direction: the formulas of document 01, 'Frames
+-- and vertices', as Vertices.antt quotes them, over a centre and a radius. Definitions only.
 use Prim.Native.Nat.{ℕ, _-_, _*_}
 use lib.Ieee.{Float, neg}
 use Rattle.surface.specs.declared.caps.End.{End}
 use Rattle.surface.specs.declared.caps.End.the-variants.{Bottom, Top}
-use Rattle.surface.specs.declared.grid.Chain.{Chain}
-use Rattle.surface.specs.declared.grid.Chain.the-variants.{Open, Closed}
 use Rattle.vec3.specs.Points.{times, thrice, sumOf, scaled, productOf}
 use Rattle.vec3.specs.Turns.{turnOf}
 use Rattle.vec3.specs.declared.points.Point.{Point}
@@ -19,25 +17,22 @@ use Rattle.rings.specs.declared.four.Four.{Four}
 unfoldable pub ringAround : Order → Axes → Point → Float → Ring
 ringAround order a centre r = record { order = order; centre = centre; ex = a .ex; ey = a .ey; radius = r }
 
--- The vertex of a ring in a direction whose cosine and sine are handed over three times each, as the tables hold them: component by
--- component the products are those of the formulas.
-unfoldable pub eyFirst : Ring → Point → Point → Point
-eyFirst k cos sin =
-    let r = thrice (k .radius) in
-    sumOf (sumOf (k .centre) (productOf (k .ey) (productOf r cos))) (productOf (k .ex) (productOf r sin))
+-- The vertex of a ring in a direction whose cosine and sine are handed over three times each, as the
+-- tables hold them: component by component the products are those of the formulas.
 
-unfoldable pub exFirst : Ring → Point → Point → Point
-exFirst k cos sin =
+-- two terms added to the centre, one after the other: an axis by the radius by a cosine or a sine
+unfoldable pub twoTerms : Ring → Point → Point → Point → Point → Point
+twoTerms k first a second b =
     let r = thrice (k .radius) in
-    sumOf (sumOf (k .centre) (productOf (k .ex) (productOf r sin))) (productOf (k .ey) (productOf r cos))
+    sumOf (sumOf (k .centre) (productOf first (productOf r a))) (productOf second (productOf r b))
 
 unfoldable pub sumFirst : Ring → Point → Point → Point
 sumFirst k cos sin = sumOf (k .centre) (scaled (sumOf (productOf (k .ex) cos) (productOf (k .ey) sin)) (k .radius))
 
 abbrev pub inOrder : Order → Ring → Point → Point → Point
-inOrder EyFirst = eyFirst
-inOrder ExFirst = exFirst
-inOrder SumFirst = sumFirst
+inOrder EyFirst k cos sin = twoTerms k (k .ey) cos (k .ex) sin
+inOrder ExFirst k cos sin = twoTerms k (k .ex) sin (k .ey) cos
+inOrder SumFirst k cos sin = sumFirst k cos sin
 
 abbrev pub ringVertex : Ring → Direction → Point
 ringVertex k d = inOrder (k .order) k (thrice (d .cos)) (thrice (d .sin))
@@ -51,12 +46,11 @@ fourOf vertex cos sin = record {
   fourth = vertex (cos .fourth) (sin .fourth);
 }
 
--- the ring round the origin of the axes: ey first for a tube, the sum first for a torus
-abbrev pub sideOf : Chain → Axes → Float → Ring
-sideOf Open a r = ringAround EyFirst a (a .origin) r
-sideOf Closed a r = ringAround SumFirst a (a .origin) r
+-- the ring round the origin of the axes
+abbrev pub ringAt : Order → Axes → Float → Ring
+ringAt order a r = ringAround order a (a .origin) r
 
--- a ring of a cap: its centre on the axis, its radius c0; L − 1 − j is 0 where a bottom cap has no ring j
+-- a ring of a cap: its centre on the axis, its radius c0; L − 1 − j is 0 if a bottom cap has no ring j
 abbrev pub capRing : End → Axes → Float → ℕ → ℕ → Ring
 capRing Bottom a r L j =
     let t = turnOf (L - 1 - j) (4 * L) in

@@ -1,13 +1,12 @@
--- The vertices of each kind (document 01, 'Frames and vertices'): of a swept one from the axes at its ring, whose origin is p, of a closed
--- cylinder from its sizes. d = (C, Sn) is the direction of the vertex's place on its ring. Definitions only.
+-- The vertices of each kind (document 01, 'Frames and vertices'): of a swept one from the axes at its
+-- ring, whose origin is p, of a closed cylinder from its sizes. d = (C, Sn) is the direction of the
+-- vertex's place on its ring. Definitions only.
 use mathlib.Core.List.{List}
 use Prim.Native.Nat.{ℕ, _-_, _*_}
 use lib.Ieee.{Float, binary32, ofBits, neg}
 use Rattle.laws.specs.Blocks.{blocks}
 use Rattle.surface.specs.declared.caps.End.{End}
 use Rattle.surface.specs.declared.caps.End.the-variants.{Bottom, Top}
-use Rattle.surface.specs.declared.grid.Chain.{Chain}
-use Rattle.surface.specs.declared.grid.Chain.the-variants.{Open, Closed}
 use Rattle.vec3.specs.Points.{plus, times, over, coordinates, sumOf, differenceOf, scaled}
 use Rattle.vec3.specs.Turns.{whole, turnOf}
 use Rattle.vec3.specs.declared.points.Point.{Point}
@@ -52,11 +51,6 @@ capVertex Top a r L j = topVertex a r (turnOf j (4 * L))
 -- Torus: "p + (ex·C + ey·Sn)·r".
 unfoldable pub torusVertex : Axes → Float → Direction → Point
 torusVertex a r d = sumOf (a .origin) (scaled (sumOf (scaled (a .ex) (d .cos)) (scaled (a .ey) (d .sin))) r)
-
--- the vertex round p on a curve that is open, as a tube's, or closed, as a torus's
-abbrev pub sideVertex : Chain → Axes → Float → Direction → Point
-sideVertex Open = tubeVertex
-sideVertex Closed = torusVertex
 
 -- Closed cylinder: "ring g: (r·C, low + (length/S)·g, r·Sn)", of any height, and of ring g.
 unfoldable pub levelAt : Float → Float → Direction → Point

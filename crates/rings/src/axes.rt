@@ -1,10 +1,9 @@
 ghost use mathlib.Core.Path.{_≡_};
 ghost use Rattle.rings.specs.Axes.{axesAt, betweenOf};
-use surface::Chain;
 use vec3::Frame;
 use vec3::Point;
 
-// A curve's vertex and the axes there: ex beside the curve, ez along it, ey across both.
+// A vertex of a curve and the axes there: ex beside the curve, ez along it, ey across both.
 pub struct Axes {
     pub origin: Point,
     pub ex: Point,
@@ -13,6 +12,7 @@ pub struct Axes {
 }
 
 impl Axes {
+    // The axes at `origin`, with ex from the frame there.
     pub fn at(origin: Point, frame: Frame, ez: Point) -> Axes
         ensures { λ r. ⌜ r ≡ axesAt origin frame ez ⌝ }
     {
@@ -26,12 +26,10 @@ impl Axes {
     }
 }
 
-// The axes' ez at a vertex between segments along u and w: `framez` of polyline3; on a torus the segment that leaves the vertex.
-pub fn framez(chain: Chain, u: Point, w: Point) -> Point
-    ensures { λ r. ⌜ r ≡ betweenOf chain u w ⌝ }
+// ez at a vertex of an open curve that lies between segments along `u` and `w`: `framez` of
+// polyline3.
+pub fn framez(u: Point, w: Point) -> Point
+    ensures { λ r. ⌜ r ≡ betweenOf u w ⌝ }
 {
-    match chain {
-        Chain::Open => u.add(w).normalize(),
-        Chain::Closed => w,
-    }
+    u.add(w).normalize()
 }

@@ -7,7 +7,7 @@ use crate::ring::Ring;
 use surface::End;
 use vec3::turn;
 
-// How many rings of a bottom cap lie above ring j; none where the cap has no ring j.
+// How many rings of a bottom cap lie above ring `j`: none if the cap has no ring `j`.
 fn rings_above(longitudes: u16, j: u16) -> u16
     ensures { λ r. ⌜ r ≡ longitudes - 1 - j ⌝ }
 {
@@ -18,7 +18,7 @@ fn rings_above(longitudes: u16, j: u16) -> u16
     }
 }
 
-// Ring j of `longitudes` in a cap round the end of a curve.
+// Ring `j` of the `longitudes` rings of a cap at the end of a curve.
 pub fn cap_ring(end: End, axes: Axes, radius: f32, longitudes: u16, j: u16) -> Ring
     ensures { λ r. ⌜ r ≡ capRing end axes radius longitudes j ⌝ }
 {

@@ -1,10 +1,11 @@
 ghost use mathlib.Core.Path.{_≡_};
-ghost use Rattle.rings.specs.Rings.{ringAround, eyFirst, exFirst, sumFirst, inOrder};
+ghost use Rattle.rings.specs.Rings.{ringAround, twoTerms, sumFirst, inOrder};
 use crate::axes::Axes;
 use vec3::Point;
 
-// The order in which document 01 adds up the terms of a vertex: on the side of a swept body and in its bottom cap ey comes first, in a
-// top cap ex; on a torus the two are added before the radius comes in.
+// The order in which document 01 adds up the terms of a vertex. On the side of a tube or a capsule
+// and in a bottom cap ey comes first, in a top cap ex; on a torus the two are added up before the
+// radius comes in.
 pub enum Order {
     EyFirst,
     ExFirst,
@@ -36,27 +37,19 @@ impl Ring {
         }
     }
 
-    // A vertex takes the cosine and the sine of its direction three times each: so the coordinates of several vertices are worked out
-    // alike, several at a time.
-    pub(crate) fn ey_first(self, cos: Point, sin: Point) -> Point
-        ensures { λ r. ⌜ r ≡ eyFirst self cos sin ⌝ }
+    // Adds two terms to the centre, one after the other. A term is an axis by the radius by a
+    // cosine or a sine. These come as points that hold them three times, because the processor
+    // then works out the coordinates of several vertices alike, several at a time.
+    fn two_terms(self, first: Point, a: Point, second: Point, b: Point) -> Point
+        ensures { λ r. ⌜ r ≡ twoTerms self first a second b ⌝ }
     {
         let r = Point::thrice(self.radius);
         self.centre
-            .add(self.ey.product(r.product(cos)))
-            .add(self.ex.product(r.product(sin)))
+            .add(first.product(r.product(a)))
+            .add(second.product(r.product(b)))
     }
 
-    pub(crate) fn ex_first(self, cos: Point, sin: Point) -> Point
-        ensures { λ r. ⌜ r ≡ exFirst self cos sin ⌝ }
-    {
-        let r = Point::thrice(self.radius);
-        self.centre
-            .add(self.ex.product(r.product(sin)))
-            .add(self.ey.product(r.product(cos)))
-    }
-
-    pub(crate) fn sum_first(self, cos: Point, sin: Point) -> Point
+    fn sum_first(self, cos: Point, sin: Point) -> Point
         ensures { λ r. ⌜ r ≡ sumFirst self cos sin ⌝ }
     {
         self.centre.add(
@@ -73,8 +66,8 @@ impl Ring {
     {
         let order = self.order;
         match order {
-            Order::EyFirst => self.ey_first(cos, sin),
-            Order::ExFirst => self.ex_first(cos, sin),
+            Order::EyFirst => self.two_terms(self.ey, cos, self.ex, sin),
+            Order::ExFirst => self.two_terms(self.ex, sin, self.ey, cos),
             Order::SumFirst => self.sum_first(cos, sin),
         }
     }

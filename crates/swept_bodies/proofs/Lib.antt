@@ -1,4 +1,4 @@
+pub mod Axes
+pub mod Parts
 pub mod Lengths
 pub mod Tables
-pub mod Along
-pub mod SideRings

@@ -34,16 +34,19 @@ vtx2framey m c g = crossOf (framez m c g) (vtx2framex m c g .ex)
 unfoldable pub axesOf : ℕ → List Float → ℕ → Axes
 axesOf m c g = record { origin = vertexOf c g; ex = vtx2framex m c g .ex; ey = vtx2framey m c g; ez = framez m c g }
 
--- Tube ring g
+-- "Tube ring g", for g from 0 to m
 abbrev pub tubeRing : ℕ → Float → ℕ → List Float → ℕ → List Float
 tubeRing n r m c g = ringOf (tubeVertex (axesOf m c g) r) n
 
 abbrev pub tubeVertices : ℕ → Float → ℕ → List Float → List Float
 tubeVertices n r m c = blocks (m + 1) (tubeRing n r m c)
 
--- Ribbon: "p, then p + ex·width".
+-- Ribbon: "p, then p + ex·width", at each vertex p of the curve.
 abbrev pub ribbonPair : Point → Frame → Float → List Float
 ribbonPair p frame width = coordinates p ++ coordinates (sumOf p (scaled (frame .ex) width))
 
+abbrev pub ribbonPart : Float → ℕ → List Float → ℕ → List Float
+ribbonPart width m c g = ribbonPair (vertexOf c g) (vtx2framex m c g) width
+
 abbrev pub ribbonVertices : Float → ℕ → List Float → List Float
-ribbonVertices width m c = blocks (m + 1) (λ g. ribbonPair (vertexOf c g) (vtx2framex m c g) width)
+ribbonVertices width m c = blocks (m + 1) (ribbonPart width m c)

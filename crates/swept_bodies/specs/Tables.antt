@@ -1,30 +1,41 @@
--- The tables that the writers along one curve share: the directions of its segments, and ez at its
--- vertices. A table has its points one after the other, three floats each. Definitions only.
+-- The tables that the writers along one curve share: the directions of its segments, what is carried
+-- along them, and ez at its vertices. A table has its points one after the other, three floats each.
+-- Definitions only.
 use mathlib.Core.Path.{_≡_}
 use mathlib.Core.List.{List}
-use Prim.Native.Nat.{ℕ, _+_, _-_, _*_, _≤_, _<_}
+use Prim.Native.Nat.{ℕ, zero, suc, _-_, _*_, _≤_, _<_}
 use lib.Ieee.{Float}
 use lib.ListN.{length}
 use Rattle.surface.specs.declared.grid.Chain.{Chain}
-use Rattle.surface.specs.declared.grid.Chain.the-variants.{Open}
-use Rattle.vec3.specs.declared.points.Point.{Point}
-use Rattle.curve.specs.Segments.{pointAt, segmentDirection}
+use Rattle.surface.specs.declared.grid.Chain.the-variants.{Open, Closed}
+use Rattle.curve.specs.Segments.{verticesIn, pointAt, segmentDirection}
+use Rattle.curve.specs.Framex.{carriedOn, carriedTo}
+use Rattle.curve.specs.declared.framex.Carried.{Carried}
 use Rattle.rings.specs.Axes.{betweenOf}
 
 -- the directions of a curve's segments
-pub record Along (chain : Chain) (count : ℕ) (c table : List Float) : Type 0 where
+pub record DirectionTable (chain : Chain) (count : ℕ) (c table : List Float) : Type 0 where
   pub room : count * 3 ≤ length table
   pub direction : (k : ℕ) → k < count → pointAt table (k * 3) ≡ segmentDirection chain count c k
 
--- ez at the vertices between two segments
-pub record Framez (chain : Chain) (count : ℕ) (c table : List Float) : Type 0 where
-  pub room : count * 3 ≤ length table
-  pub between : (g : ℕ) → 1 ≤ g → g < count → pointAt table (g * 3) ≡ betweenOf chain (segmentDirection chain count c (g - 1)) (segmentDirection chain count c g)
+-- What the writers ask of a curve and its table: a segment at least, and no more vertices than are
+-- permitted ("vertices outside 2 to 4,096 (torus 3 to 4,096 ..)", document 01, of 10).
+pub record OpenCurve (c directions : List Float) : Type 0 where
+  pub segment : 1 ≤ verticesIn c - 1
+  pub most : verticesIn c ≤ 4096
+  pub table : DirectionTable Open (verticesIn c - 1) c directions
 
--- the same of an open curve, by the table of its directions
-abbrev pub betweenIn : List Float → ℕ → Point
-betweenIn directions k = betweenOf Open (pointAt directions (k * 3)) (pointAt directions (k * 3 + 3))
+pub record ClosedCurve (c directions : List Float) : Type 0 where
+  pub segment : 1 ≤ verticesIn c
+  pub most : verticesIn c ≤ 4096
+  pub table : DirectionTable Closed (verticesIn c) c directions
 
-pub record FramezIn (count : ℕ) (directions table : List Float) : Type 0 where
+-- ez at the vertices of an open curve between two segments, by the table of its directions
+pub record EzTable (count : ℕ) (directions table : List Float) : Type 0 where
   pub room : count * 3 ≤ length table
-  pub between : (g : ℕ) → 1 ≤ g → g < count → pointAt table (g * 3) ≡ betweenIn directions (g - 1)
+  pub between : (g : ℕ) → 1 ≤ g → g < count → pointAt table (g * 3) ≡ betweenOf (pointAt directions ((g - 1) * 3)) (pointAt directions (g * 3))
+
+-- What is carried to segment g, by the table of directions: from each segment to the next.
+abbrev pub carriedIn : List Float → ℕ → Carried
+carriedIn directions zero = carriedOn (pointAt directions 0)
+carriedIn directions (suc g) = carriedTo (carriedIn directions g) (pointAt directions (suc g * 3))

@@ -1,21 +1,29 @@
 ghost use mathlib.Core.Path.{_≡_};
-ghost use Prim.Native.Nat.{_+_, _-_, _*_, _≤_};
+ghost use Prim.Native.Nat.{_-_, _*_, _≤_};
 ghost use lib.ListN.{length};
 ghost use Rattle.laws.specs.Overwrite.{overwrite};
 ghost use Rattle.curve.specs.Segments.{vertexOf};
-ghost use Rattle.curve.specs.Framex.{carriedOf};
 ghost use Rattle.rings.specs.Axes.{axesAt};
 ghost use Rattle.ring_writers.specs.Tables.{Turns};
-ghost use Rattle.swept_bodies.specs.Tables.{Along, Framez, FramezIn};
+ghost use Rattle.swept_bodies.specs.Tables.{EzTable, carriedIn};
 ghost use Rattle.swept_bodies.specs.Swept.{innerRings};
 use curve::Carried;
-use ring_writers::point;
+use curve::point;
 use ring_writers::put_point;
 use ring_writers::write_ring;
 use rings::Axes;
+use rings::Order;
+use rings::Ring;
 use rings::framez;
-use rings::side;
-use surface::Chain;
+
+// What all rings along one curve share: the order in which the terms of a vertex are added up, how
+// many segments the curve has, and a ring's divisions and radius.
+pub struct Sweep {
+    pub order: Order,
+    pub segments: u16,
+    pub divisions: u16,
+    pub radius: f32,
+}
 
 // The axes at vertex `k`, with ez along the segment that the frame has been carried to: at the
 // ends of an open curve, and at a loop's first vertex.
@@ -25,54 +33,47 @@ pub(crate) fn axes_on(curve: &[f32], k: usize, carried: Carried) -> Axes
     Axes::at(curve::vertex(curve, k), carried.frame, carried.direction)
 }
 
-// Fills the table of ez at an open curve's vertices between two segments, the one at vertex k from
-// index 3k on. It is filled before the first ring is written, because square roots that wait
+// Fills the table of ez at an open curve's vertices between two segments, the one at vertex g from
+// index 3g on. It is filled before the first ring is written, because square roots that wait
 // neither for each other nor for a ring take a third of the time.
 pub(crate) fn fill_framez(count: u16, directions: &[f32], out: &mut [f32])
     requires { ⌜ (count * 3 ≤ length (now directions)) × (count * 3 ≤ length (now out)) ⌝ }
-    ensures { λ _. ⌜ FramezIn count (now (directions .entry)) (now (out .exit)) ⌝ }
+    ensures { λ _. ⌜ EzTable count (now (directions .entry)) (now (out .exit)) ⌝ }
 {
     let mut before: usize = 0;
     let mut g: u16 = 1;
     while g < count {
         let here = before + 3;
-        let ez = framez(
-            Chain::Open,
-            point(directions, before),
-            point(directions, here),
-        );
+        let ez = framez(point(directions, before), point(directions, here));
         put_point(out, here, ez);
         before = here;
         g += 1;
     }
 }
 
-// Writes the rings at the vertices 1 to count − 1, each of which lies between two of the curve's
-// `count` segments, from index `at` on. It takes the frame on the first segment and answers the
-// frame on the last.
+// Writes the rings at the vertices 1 to segments − 1, each of which lies between two segments, to
+// the front of `out`. `start` is the frame on the first segment; it answers the frame on the last.
+// This is the only place where frames are carried from ring to ring.
 pub(crate) fn write_inner(
     out: &mut [f32],
-    at: usize,
-    chain: Chain,
-    count: u16,
+    sweep: Sweep,
     curve: &[f32],
     directions: &[f32],
     ez: &[f32],
     start: Carried,
-    radius: f32,
-    n: u16,
-    cosines: &[f32],
-    sines: &[f32],
+    turns: &[f32],
 ) -> Carried
-    requires { ⌜ (1 ≤ count) × (start ≡ carriedOf chain count (now curve) 0) ⌝ }
-    requires { ⌜ Along chain count (now curve) (now directions) × Framez chain count (now curve) (now ez) ⌝ }
-    requires { ⌜ (at + (count - 1) * (n * 3) ≤ length (now out)) × Turns n (now cosines) (now sines) ⌝ }
-    ensures { λ r. ⌜ r ≡ carriedOf chain count (now (curve .entry)) (count - 1) ⌝ }
-    ensures { λ _. ⌜ now (out .exit) ≡ overwrite at (innerRings chain count (now (curve .entry)) radius n) (now (out .entry)) ⌝ }
+    requires { ⌜ (1 ≤ sweep .segments) × (start ≡ carriedIn (now directions) 0) ⌝ }
+    requires { ⌜ (sweep .segments * 3 ≤ length (now directions)) × (sweep .segments * 3 ≤ length (now ez)) ⌝ }
+    requires { ⌜ ((sweep .segments - 1) * (sweep .divisions * 3) ≤ length (now out)) × Turns (sweep .divisions) (now turns) ⌝ }
+    ensures { λ r. ⌜ r ≡ carriedIn (now (directions .entry)) (sweep .segments - 1) ⌝ }
+    ensures { λ _. ⌜ now (out .exit) ≡ overwrite 0 (innerRings sweep (now (curve .entry)) (now (directions .entry)) (now (ez .entry))) (now (out .entry)) ⌝ }
 {
-    let size = n as usize * 3;
+    let order = sweep.order;
+    let count = sweep.segments;
+    let n = sweep.divisions as usize;
     let mut carried = start;
-    let mut place = at;
+    let mut place: usize = 0;
     let mut k: usize = 3;
     let mut g: u16 = 1;
     while g < count {
@@ -82,15 +83,9 @@ pub(crate) fn write_inner(
             carried.frame,
             point(ez, k),
         );
-        write_ring(
-            out,
-            place,
-            side(chain, axes, radius),
-            n as usize,
-            cosines,
-            sines,
-        );
-        place += size;
+        let ring = Ring::around(order, axes, axes.origin, sweep.radius);
+        write_ring(out, place, ring, n, turns);
+        place += n * 3;
         k += 3;
         g += 1;
     }

@@ -17,11 +17,11 @@ use Rattle.ring_writers.proofs.ring_writer.write_fours.Statement.{state
 use Rattle.ring_writers.proofs.ring_writer.write_fours.Tie as tie
 
 abbrev Inv-loop : tie.InvT-loop
-Inv-loop out₀ at ring n cosines sines place₀ k₀ i₀ out place k i =
+Inv-loop out₀ at ring n turns place₀ k₀ i₀ out place k i =
     (out ≡ overwrite at (blocks i (vertexOn (ringVertex ring) n)) out₀) × (place ≡ at + i * 3) × (k ≡ i * 3) × (i ≤ n) × (length out ≡ length out₀)
 
 abbrev μ-loop : tie.MeasureT-loop
-μ-loop out₀ at ring n cosines sines place₀ k₀ i₀ out place k i = n - i
+μ-loop out₀ at ring n turns place₀ k₀ i₀ out place k i = n - i
 
 loop-holds : tie.Need-loop-holds Inv-loop μ-loop
 loop-holds c = (sym (overwrite-none _ _), omega arith, omega arith, omega arith, refl)
@@ -32,6 +32,9 @@ add-loop c = omega arith
 four-at-requires : tie.Need-four-at-requires Inv-loop μ-loop
 four-at-requires c κs = omega arith
 
+add-four-at : tie.Need-add-four-at Inv-loop μ-loop
+add-four-at c = omega arith
+
 four-at-requires-2 : tie.Need-four-at-requires-2 Inv-loop μ-loop
 four-at-requires-2 c κs = omega arith
 
@@ -40,33 +43,33 @@ four-requires c κs = search needs
 
 put-four-requires : tie.Need-put-four-requires Inv-loop μ-loop
 put-four-requires c κs = let i = c .before .before .before .before in
-    let s = i .before .before .before .before .before in
+    let s = i .before .before .before .before in
     omega arith
 
 add-place : tie.Need-add-place Inv-loop μ-loop
 add-place c = let i = c .before .before .before .before .before .before .before in
-    let s = i .before .before .before .before .before in
-    omega (arith, s .pre .1 .cosine-room)
+    let s = i .before .before .before .before in
+    omega (arith, s .pre .1 .most)
 
 add-k : tie.Need-add-k Inv-loop μ-loop
 add-k c = let i = c .before .before .before .before .before .before .before in
-    let s = i .before .before .before .before .before in
-    omega (arith, s .pre .1 .cosine-room)
+    let s = i .before .before .before .before in
+    omega (arith, s .pre .1 .most)
 
 add-i : tie.Need-add-i Inv-loop μ-loop
 add-i c = let i = c .before .before .before .before .before .before .before in
-    let s = i .before .before .before .before .before in
-    omega (arith, s .pre .1 .cosine-room)
+    let s = i .before .before .before .before in
+    omega (arith, s .pre .1 .most)
 
 loop-less : tie.Need-loop-less Inv-loop μ-loop
 loop-less c = let i = c .before .before .before .before .before .before .before in omega arith
 
 loop-again : tie.Need-loop-again Inv-loop μ-loop
 loop-again c = let w = c .before .before in
-    let f = w .before in
-    let i = f .before .before .before .before in
+    let f = w .before .before in
+    let i = f .before .before .before in
     let l = i .before .loop in
-    let s = i .before .before .before .before .before in
+    let s = i .before .before .before .before in
     let a = s .args in
     let vertex = inOrder (a .ring .order) (a .ring) in
     let made = f .four .ensures ∙ (λ j. fourOf vertex (f .before .before .four-at .ensures j) (f .before .four-at2 .ensures j)) in (
@@ -93,6 +96,7 @@ write-fours-spec =
     loop-holds
     add-loop
     four-at-requires
+    add-four-at
     four-at-requires-2
     four-requires
     put-four-requires

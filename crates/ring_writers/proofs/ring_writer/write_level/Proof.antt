@@ -16,20 +16,23 @@ use Rattle.ring_writers.proofs.ring_writer.write_level.Statement.{state
 use Rattle.ring_writers.proofs.ring_writer.write_level.Tie as tie
 
 abbrev Inv-loop : tie.InvT-loop
-Inv-loop out₀ at radius y n cosines sines k₀ i₀ out k i =
+Inv-loop out₀ at radius y n turns k₀ i₀ out k i =
     (out ≡ overwrite at (blocks i (vertexOn (levelAt radius y) n)) out₀) × (k ≡ i * 3) × (i ≤ n) × (length out ≡ length out₀)
 
 abbrev μ-loop : tie.MeasureT-loop
-μ-loop out₀ at radius y n cosines sines k₀ i₀ out k i = n - i
+μ-loop out₀ at radius y n turns k₀ i₀ out k i = n - i
 
 loop-holds : tie.Need-loop-holds Inv-loop μ-loop
 loop-holds c = (sym (overwrite-none _ _), omega arith, omega arith, refl)
 
-mul-t12 : tie.Need-mul-t12 Inv-loop μ-loop
-mul-t12 c = omega arith
+mul-t11 : tie.Need-mul-t11 Inv-loop μ-loop
+mul-t11 c = omega arith
 
-shared-slice-read-t14 : tie.Need-shared-slice-read-t14 Inv-loop μ-loop
-shared-slice-read-t14 c = omega arith
+shared-slice-read-t13 : tie.Need-shared-slice-read-t13 Inv-loop μ-loop
+shared-slice-read-t13 c = omega arith
+
+add-t14 : tie.Need-add-t14 Inv-loop μ-loop
+add-t14 c = omega arith
 
 mul-t15 : tie.Need-mul-t15 Inv-loop μ-loop
 mul-t15 c = omega arith
@@ -60,7 +63,7 @@ loop-again c = let w = c .before .before in
     let v = w .before in
     let i = v .before .before .before .before in
     let l = i .before .loop in
-    let s = i .before .before .before .before .before in
+    let s = i .before .before .before .before in
     let a = s .args in (
       one-more (a .at) (l .i) 3 (vertexOn (levelAt (a .radius) (a .y)) (a .n)) (now (a .out)) (λ k h. refl) (l .inv .0) (omega arith) (w .put-point .ensures)
           (ap coordinates (v .level .ensures ∙ ap (levelAt (a .radius) (a .y)) (direction-at (a .n) (s .pre .1) (l .i) (i .loop-test .taken) (l .inv .1)))),
@@ -74,7 +77,7 @@ same-length c = c .before .loop .inv .3
 
 returns : tie.Need-returns Inv-loop μ-loop
 returns c = let o = c .before .loop in
-    let a = c .before .before .before .before .before .args in
+    let a = c .before .before .before .before .args in
     let e : o .i ≡ a .n = omega arith in
     all-written (a .at) (vertexOn (levelAt (a .radius) (a .y)) (a .n)) (now (a .out)) (o .inv .0) e
 
@@ -85,8 +88,9 @@ write-level-spec =
     Inv-loop
     μ-loop
     loop-holds
-    mul-t12
-    shared-slice-read-t14
+    mul-t11
+    shared-slice-read-t13
+    add-t14
     mul-t15
     shared-slice-read-t17
     add-put-point

@@ -22,7 +22,7 @@ same-length c = search needs
 returns : tie.Need-returns
 returns c = let r = c .before .before in
     let f = r .before .before .before .before in
-    let a = f .before .before .before .before .before .args in
+    let a = f .before .before .before .before .args in
     let done = f .write-fours .result in
     let vertex = vertexOn (ringVertex (a .ring)) (a .n) in
     let all : done + (a .n - done) ≡ a .n = omega (arith, f .write-fours .ensures .0) in

@@ -9,14 +9,17 @@ use lib.Ieee.{Float}
 use lib.ListN.{length}
 use Rattle.laws.specs.Overwrite.{overwrite, overwrite-none}
 use Rattle.laws.specs.Blocks.{blocks, one-more, all-written}
-use Rattle.surface.specs.declared.grid.Chain.the-variants.{Open}
 use Rattle.vec3.specs.Points.{coordinates}
+use Rattle.vec3.specs.declared.points.Point.{Point}
 use Rattle.curve.specs.Segments.{pointAt}
 use Rattle.rings.specs.Axes.{betweenOf}
-use Rattle.swept_bodies.specs.Tables.{betweenIn}
 use Rattle.ring_writers.proofs.Tables.{table-point}
 use Rattle.swept_bodies.proofs.swept.fill_framez.Statement.{statement}
 use Rattle.swept_bodies.proofs.swept.fill_framez.Tie as tie
+
+-- ez between segments k and k + 1
+abbrev betweenIn : List Float → ℕ → Point
+betweenIn directions k = betweenOf (pointAt directions (k * 3)) (pointAt directions (k * 3 + 3))
 
 abbrev Inv-loop : tie.InvT-loop
 Inv-loop count directions out₀ before₀ g₀ out before g =
@@ -65,7 +68,7 @@ loop-again c = let w = c .before .before in
     let v = z .before .point2 .ensures ∙ ap (λ (k : ℕ). pointAt dirs (k + 3)) (l .inv .1) in (
       all-written 3 (λ k. coordinates (betweenIn dirs k)) (now (a .out))
           (one-more 3 (l .g - 1) 3 (λ k. coordinates (betweenIn dirs k)) (now (a .out)) (λ k h. refl) (l .inv .0) (omega arith) (w .put-point .ensures)
-          (ap coordinates (z .framez .ensures ∙ (λ j. betweenOf Open (u j) (v j))))) next,
+          (ap coordinates (z .framez .ensures ∙ (λ j. betweenOf (u j) (v j))))) next,
       omega arith,
       omega arith,
       omega arith,
@@ -84,8 +87,11 @@ returns c = let o = c .before .loop in
     let whole = all-written 3 (λ k. coordinates (betweenIn dirs k)) (now (a .out)) (o .inv .0) e in
     record {
       room = omega (arith, o .inv .4, s .pre);
-      between = λ g l h. ap (λ (t : List Float). pointAt t (g * 3)) whole
-          ∙ table-point 3 (a .count - 1) (betweenIn dirs) (now (a .out)) (g - 1) {q = g * 3} (omega (arith, s .pre)) (omega arith) (omega arith);
+      between = λ g l h.
+          let e : (g - 1) * 3 + 3 ≡ g * 3 = omega arith in
+          ap (λ (t : List Float). pointAt t (g * 3)) whole
+          ∙ table-point 3 (a .count - 1) (betweenIn dirs) (now (a .out)) (g - 1) {q = g * 3} (omega (arith, s .pre)) (omega arith) (omega arith)
+          ∙ ap (λ (k : ℕ). betweenOf (pointAt dirs ((g - 1) * 3)) (pointAt dirs k)) e;
     }
 
 pub fill-framez-spec : {M : Type 1} → statement M

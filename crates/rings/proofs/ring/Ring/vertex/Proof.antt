@@ -9,14 +9,14 @@ use Rattle.rings.proofs.ring.Ring.vertex.Tie as tie
 enum-told : tie.Need-enum-told
 enum-told c = search needs
 
-ey-first-requires : tie.Need-ey-first-requires
-ey-first-requires c κs = search needs
+two-terms-requires : tie.Need-two-terms-requires
+two-terms-requires c κs = search needs
 
 enum-told-2 : tie.Need-enum-told-2
 enum-told-2 c = search needs
 
-ex-first-requires : tie.Need-ex-first-requires
-ex-first-requires c κs = search needs
+two-terms-requires-2 : tie.Need-two-terms-requires-2
+two-terms-requires-2 c κs = search needs
 
 enum-told-3 : tie.Need-enum-told-3
 enum-told-3 c = search needs
@@ -25,14 +25,15 @@ sum-first-requires : tie.Need-sum-first-requires
 sum-first-requires c κs = search needs
 
 -- a ring answers for the order that the match told
-told : (s : tie.Start) {order : Order} → s .args .self .order ≡ order → inOrder order (s .args .self) (s .args .cos) (s .args .sin) ≡ inOrder (s .args .self .order) (s .args .self) (s .args .cos) (s .args .sin)
+told : (s : tie.Start) {order : Order} → s .args .self .order ≡ order
+    → inOrder order (s .args .self) (s .args .cos) (s .args .sin) ≡ inOrder (s .args .self .order) (s .args .self) (s .args .cos) (s .args .sin)
 told s is = ap (λ (o : Order). inOrder o (s .args .self) (s .args .cos) (s .args .sin)) (sym is)
 
 returns : tie.Need-returns
-returns c = c .ey-first .ensures ∙ told (c .before .before .before) (c .before .enum-told .given .1)
+returns c = c .two-terms .ensures ∙ told (c .before .before .before) (c .before .enum-told .given .1)
 
 returns-2 : tie.Need-returns-2
-returns-2 c = c .ex-first .ensures ∙ told (c .before .before .before) (c .before .enum-told2 .given .1)
+returns-2 c = c .two-terms2 .ensures ∙ told (c .before .before .before) (c .before .enum-told2 .given .1)
 
 returns-3 : tie.Need-returns-3
 returns-3 c = c .sum-first .ensures ∙ told (c .before .before .before) (c .before .enum-told3 .given .1)
@@ -42,9 +43,9 @@ vertex-spec =
     tie.close
     (tie.spec
     enum-told
-    ey-first-requires
+    two-terms-requires
     enum-told-2
-    ex-first-requires
+    two-terms-requires-2
     enum-told-3
     sum-first-requires
     returns

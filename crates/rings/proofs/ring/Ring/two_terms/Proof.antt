@@ -1,9 +1,9 @@
 -- The terms are added in the order of the definition. Assumes nothing.
 use borrow.Author.Needs.{needs}
-use Rattle.rings.specs.Rings.{exFirst}
+use Rattle.rings.specs.Rings.{twoTerms}
 use Rattle.rings.proofs.Terms.{one-term, both-terms}
-use Rattle.rings.proofs.ring.Ring.ex_first.Statement.{statement}
-use Rattle.rings.proofs.ring.Ring.ex_first.Tie as tie
+use Rattle.rings.proofs.ring.Ring.two_terms.Statement.{statement}
+use Rattle.rings.proofs.ring.Ring.two_terms.Tie as tie
 
 thrice-requires : tie.Need-thrice-requires
 thrice-requires c κs = search needs
@@ -27,18 +27,18 @@ add-requires-2 : tie.Need-add-requires-2
 add-requires-2 c κs = search needs
 
 returns : tie.Need-returns
-unfolding exFirst
+unfolding twoTerms
 returns c =
     let sum = c .before .before .before in
     let radius = sum .before .before .before in
-    let a = radius .before .args in
-    let k = a .self in
-    let first = one-term (k .ex) (a .sin) (k .radius) (radius .thrice .ensures) (sum .before .before .product .ensures) (sum .before .product2 .ensures) in
-    let second = one-term (k .ey) (a .cos) (k .radius) (radius .thrice .ensures) (c .before .before .product3 .ensures) (c .before .product4 .ensures) in
-    both-terms (k .centre) first (sum .add .ensures) second (c .add2 .ensures)
+    let p = radius .before .args in
+    let k = p .self in
+    let one = one-term (p .first) (p .a) (k .radius) (radius .thrice .ensures) (sum .before .before .product .ensures) (sum .before .product2 .ensures) in
+    let other = one-term (p .second) (p .b) (k .radius) (radius .thrice .ensures) (c .before .before .product3 .ensures) (c .before .product4 .ensures) in
+    both-terms (k .centre) one (sum .add .ensures) other (c .add2 .ensures)
 
-pub ex-first-spec : {M : Type 1} → statement M
-ex-first-spec =
+pub two-terms-spec : {M : Type 1} → statement M
+two-terms-spec =
     tie.close
     (tie.spec
     thrice-requires
