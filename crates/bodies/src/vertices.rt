@@ -5,8 +5,7 @@ ghost use Rattle.laws.specs.Overwrite.{overwrite, placed};
 ghost use Rattle.kinds.specs.Kinds.{vertexCount};
 ghost use Rattle.descriptions.specs.Descriptions.{segmentCount, topologyOf};
 ghost use Rattle.descriptions.specs.Refusals.{ShapePermitted};
-ghost use Rattle.bodies.specs.Bodies.{verticesOf, drawable};
-ghost use Rattle.bodies.specs.Bodies.{AlongCurve};
+ghost use Rattle.bodies.specs.Bodies.{verticesOf, drawable, CurveDirections};
 use crate::draw::draw;
 use crate::work::Work;
 use descriptions::Description;
@@ -18,7 +17,8 @@ use swept_bodies::to_trimesh3_ribbon;
 use swept_bodies::to_trimesh3_torus;
 
 // Writes the vertices of a body to the front of `out`, from the table of its curve's directions.
-// Its shape is permitted: curve vertices (refusal 10), divisions (20), longitudes or layers (21).
+// Its number of curve vertices (10), its divisions (20) and its longitudes or layers (21) are
+// permitted. `ez` is scratch space.
 pub(crate) fn fill(
     description: Description,
     curve: &[f32],
@@ -28,7 +28,7 @@ pub(crate) fn fill(
 )
     requires { ⌜ ShapePermitted description (length (now curve) / 3) ⌝ }
     requires { ⌜ 3 * vertexCount (topologyOf description (length (now curve) / 3)) ≤ length (now out) ⌝ }
-    requires { ⌜ AlongCurve description (now curve) (now directions) ⌝ }
+    requires { ⌜ CurveDirections description (now curve) (now directions) ⌝ }
     requires { ⌜ segmentCount description (length (now curve) / 3) * 3 ≤ length (now ez) ⌝ }
     ensures { λ _. ⌜ now (out .exit) ≡ overwrite 0 (verticesOf description (now (curve .entry))) (now (out .entry)) ⌝ }
 {
