@@ -15,7 +15,7 @@ use Rattle.descriptions.specs.Refusals.{curveFoldsPermitted}
 use Rattle.descriptions.proofs.Checked.{corners-within}
 use Rattle.bodies.specs.Bodies.{verticesOf}
 use Rattle.bodies.specs.Work.{isLenient, isWriting}
-use Rattle.swept_bodies.proofs.Tables.{written-along}
+use Rattle.swept_bodies.proofs.Tables.{written-table}
 use borrow.Author.Needs.{needs}
 use Rattle.bodies.proofs.draw.draw_with.Statement.{statement}
 use Rattle.bodies.proofs.draw.draw_with.Tie as tie
@@ -72,7 +72,7 @@ fill-requires : tie.Need-fill-requires
 fill-requires c κs = let t = c .before .before .before in
     let f = filled (t .before .before .before) in
     let s = start f in
-    let table = written-along (curveChain (s .args .description)) (count s) (now (s .args .curve)) (now (s .args .directions)) (s .pre .1 .0) (f .fill-table .ensures) in
+    let table = written-table (curveChain (s .args .description)) (count s) (now (s .args .curve)) (now (s .args .directions)) (s .pre .1 .0) (f .fill-table .ensures) in
     (s .pre .0, (s .pre .1 .1 .1 (writing t), (table, s .pre .1 .1 .0)))
 
 same-length-2 : tie.Need-same-length-2

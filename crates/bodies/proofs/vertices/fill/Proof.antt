@@ -11,7 +11,6 @@ use Rattle.laws.specs.Overwrite.{overwrite}
 use Rattle.descriptions.specs.Descriptions.{segmentCount}
 use Rattle.descriptions.specs.declared.description.Description.{Description}
 use Rattle.bodies.specs.Bodies.{verticesOf}
-use Rattle.bodies.specs.Bodies.{AlongCurve}
 use Rattle.bodies.proofs.Asks.{Asks, asks}
 use borrow.Author.Needs.{needs}
 use Rattle.bodies.proofs.vertices.fill.Statement.{statement}
@@ -20,14 +19,13 @@ use Rattle.bodies.proofs.vertices.fill.Tie as tie
 -- what the kind of an arm asks
 abbrev Has : (s : tie.Start) → Description → Type 0
 Has s d =
-    Asks d (length (now (s .args .curve)) / 3) (length (now (s .args .out)))
-    × AlongCurve d (now (s .args .curve)) (now (s .args .directions))
+    Asks d (now (s .args .curve)) (now (s .args .directions)) (length (now (s .args .out)))
     × (segmentCount d (length (now (s .args .curve)) / 3) * 3 ≤ length (now (s .args .ez)))
 
 asked : (s : tie.Start) {d : Description} → s .args .description ≡ d → Has s d
 asked s e =
     subst (Has s) e
-    (asks (s .args .description) (length (now (s .args .curve)) / 3) (length (now (s .args .out))) (s .pre .0) (s .pre .1 .0), s .pre .1 .1 .0, s .pre .1 .1 .1)
+    (asks (s .args .description) (now (s .args .curve)) (now (s .args .directions)) (length (now (s .args .out))) (s .pre .0) (s .pre .1 .0) (s .pre .1 .1 .0), s .pre .1 .1 .1)
 
 -- what the writer of the description's own kind left is what the description's list is
 written : (s : tie.Start) {d : Description} {after : List Float} → s .args .description ≡ d
@@ -38,14 +36,6 @@ written s e w = w ∙ sym (ap (λ (x : Description). overwrite 0 (verticesOf x (
 enum-known-description : tie.Need-enum-known-description
 enum-known-description c = search needs
 
-sub-to-trimesh3-ribbon : tie.Need-sub-to-trimesh3-ribbon
-sub-to-trimesh3-ribbon c = let k = c .before .before in
-    let asks = asked (k .before .before .before .before .before .before) (k .description .given .1) in omega arith
-
-cast-to-trimesh3-ribbon : tie.Need-cast-to-trimesh3-ribbon
-cast-to-trimesh3-ribbon c = let k = c .before .before in
-    let asks = asked (k .before .before .before .before .before .before) (k .description .given .1) in omega arith
-
 to-trimesh3-ribbon-requires : tie.Need-to-trimesh3-ribbon-requires
 to-trimesh3-ribbon-requires c κs = let k = c .before .before in
     let asks = asked (k .before .before .before .before .before .before) (k .description .given .1) in search needs
@@ -53,16 +43,8 @@ to-trimesh3-ribbon-requires c κs = let k = c .before .before in
 enum-known-description-2 : tie.Need-enum-known-description-2
 enum-known-description-2 c = search needs
 
-sub-set-vtx2xyz-for-generalized-cylinder-open-end : tie.Need-sub-set-vtx2xyz-for-generalized-cylinder-open-end
-sub-set-vtx2xyz-for-generalized-cylinder-open-end c = let k = c .before .before .before in
-    let asks = asked (k .before .before .before .before .before .before) (k .description2 .given .1) in omega arith
-
 cast-set-vtx2xyz-for-generalized-cylinder-open-end : tie.Need-cast-set-vtx2xyz-for-generalized-cylinder-open-end
 cast-set-vtx2xyz-for-generalized-cylinder-open-end c = let k = c .before .before .before in
-    let asks = asked (k .before .before .before .before .before .before) (k .description2 .given .1) in omega arith
-
-cast-set-vtx2xyz-for-generalized-cylinder-open-end-2 : tie.Need-cast-set-vtx2xyz-for-generalized-cylinder-open-end-2
-cast-set-vtx2xyz-for-generalized-cylinder-open-end-2 c = let k = c .before .before .before in
     let asks = asked (k .before .before .before .before .before .before) (k .description2 .given .1) in omega arith
 
 set-vtx2xyz-for-generalized-cylinder-open-end-requires : tie.Need-set-vtx2xyz-for-generalized-cylinder-open-end-requires
@@ -72,20 +54,12 @@ set-vtx2xyz-for-generalized-cylinder-open-end-requires c κs = let k = c .before
 enum-known-description-3 : tie.Need-enum-known-description-3
 enum-known-description-3 c = search needs
 
-sub-to-trimesh3-capsule : tie.Need-sub-to-trimesh3-capsule
-sub-to-trimesh3-capsule c = let k = c .before .before .before in
-    let asks = asked (k .before .before .before .before .before .before) (k .description3 .given .1) in omega arith
-
 cast-to-trimesh3-capsule : tie.Need-cast-to-trimesh3-capsule
 cast-to-trimesh3-capsule c = let k = c .before .before .before in
     let asks = asked (k .before .before .before .before .before .before) (k .description3 .given .1) in omega arith
 
 cast-to-trimesh3-capsule-2 : tie.Need-cast-to-trimesh3-capsule-2
 cast-to-trimesh3-capsule-2 c = let k = c .before .before .before in
-    let asks = asked (k .before .before .before .before .before .before) (k .description3 .given .1) in omega arith
-
-cast-to-trimesh3-capsule-3 : tie.Need-cast-to-trimesh3-capsule-3
-cast-to-trimesh3-capsule-3 c = let k = c .before .before .before in
     let asks = asked (k .before .before .before .before .before .before) (k .description3 .given .1) in omega arith
 
 to-trimesh3-capsule-requires : tie.Need-to-trimesh3-capsule-requires
@@ -97,10 +71,6 @@ enum-known-description-4 c = search needs
 
 cast-to-trimesh3-torus : tie.Need-cast-to-trimesh3-torus
 cast-to-trimesh3-torus c = let k = c .before .before in
-    let asks = asked (k .before .before .before .before .before .before) (k .description4 .given .1) in omega arith
-
-cast-to-trimesh3-torus-2 : tie.Need-cast-to-trimesh3-torus-2
-cast-to-trimesh3-torus-2 c = let k = c .before .before in
     let asks = asked (k .before .before .before .before .before .before) (k .description4 .given .1) in omega arith
 
 to-trimesh3-torus-requires : tie.Need-to-trimesh3-torus-requires
@@ -168,23 +138,16 @@ fill-spec =
     tie.close
     (tie.spec
     enum-known-description
-    sub-to-trimesh3-ribbon
-    cast-to-trimesh3-ribbon
     to-trimesh3-ribbon-requires
     enum-known-description-2
-    sub-set-vtx2xyz-for-generalized-cylinder-open-end
     cast-set-vtx2xyz-for-generalized-cylinder-open-end
-    cast-set-vtx2xyz-for-generalized-cylinder-open-end-2
     set-vtx2xyz-for-generalized-cylinder-open-end-requires
     enum-known-description-3
-    sub-to-trimesh3-capsule
     cast-to-trimesh3-capsule
     cast-to-trimesh3-capsule-2
-    cast-to-trimesh3-capsule-3
     to-trimesh3-capsule-requires
     enum-known-description-4
     cast-to-trimesh3-torus
-    cast-to-trimesh3-torus-2
     to-trimesh3-torus-requires
     enum-known-description-5
     cast-cylinder-closed-end-yup
