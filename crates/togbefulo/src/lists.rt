@@ -1,5 +1,7 @@
-// Triangle lists, by the numbers of a body: its triangles, with `first` added to each index, are written to the front of `out`. Where the
-// body is not permitted, a vertex would be numbered 2^28 or above, or `out` is too short, the answer is false and nothing is written.
+// Triangle lists, by the numbers of a body. Each function writes the body's triangles, with
+// `first` added to each index, to the front of `out` and answers true. It answers false and writes
+// nothing if the body is not permitted, a vertex would be numbered 2^28 or above, or `out` is too
+// short.
 ghost use mathlib.Core.Path.{_≡_};
 ghost use lib.ListN.{length};
 ghost use Rattle.surface.specs.Triangles.{flatten, shift};
@@ -49,9 +51,17 @@ pub extern "C" fn togbefulo_capsule_triangles(
     first: u32,
     out: &mut [u32],
 ) -> bool
-    ensures { λ r. let body = Topology.Capsule (record { divisions = divisions; longitudes = longitudes; segments = segments }) in
+    ensures { λ r. let body = Topology.Capsule (record {
+      divisions = divisions;
+      longitudes = longitudes;
+      segments = segments;
+    }) in
         ⌜ r ≡ writable body first (length (now (out .entry))) ⌝ }
-    ensures { λ r. let body = Topology.Capsule (record { divisions = divisions; longitudes = longitudes; segments = segments }) in
+    ensures { λ r. let body = Topology.Capsule (record {
+      divisions = divisions;
+      longitudes = longitudes;
+      segments = segments;
+    }) in
         ⌜ now (out .exit) ≡ placed r (flatten (shift first (trianglesOf body))) (now (out .entry)) ⌝ }
 {
     Topology::Capsule(Capsule {
