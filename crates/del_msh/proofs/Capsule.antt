@@ -20,6 +20,7 @@ use Rattle.curve.specs.Segments.{verticesIn}
 use Rattle.rings.specs.Vertices.{bottomPole, topPole, bottomVertex, topVertex, capVertex}
 use Rattle.swept_bodies.specs.Polyline3 as paper
 use Rattle.swept_bodies.specs.Capsule.{capsuleVertices}
+use Rattle.swept_bodies.proofs.Parts.{capsule-parts}
 use Rattle.del_msh.specs.Arrays.{minus, Outside, read, one}
 use Rattle.del_msh.specs.DelGeoCore.{TAU, FRAC-PI-2, mul, div, cos, sin}
 use Rattle.del_msh.specs.Trimesh3Primitive.{cylinder-closed-end-yup}
@@ -194,6 +195,7 @@ module _ (outside : Outside) (c : List Float) (m : ℕ) (is : verticesIn c ≡ m
       ∙ ap (λ (k : ℕ). floats (parts k)) between
       ∙ five-parts bottom A (B (m - 1)) C top
       ∙ (λ j. coordinates bottom ++ (a j ++ (b j ++ (d j ++ coordinates top))))
+      ∙ sym (capsule-parts n L r m c h)
 
   pub capsule-triangles : rust.to-trimesh3-capsule outside (chunks c) n L r .0 ≡ closedTriangles n (2 * L + m - 2)
   unfolding rust.to-trimesh3-capsule

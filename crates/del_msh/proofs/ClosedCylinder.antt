@@ -14,6 +14,7 @@ use Rattle.vec3.specs.declared.points.Point.{Point}
 use Rattle.vec3.specs.declared.turns.Direction.{Direction}
 use Rattle.rings.specs.Vertices.{levelAt, levelVertex, pole}
 use Rattle.kinds.specs.Lists.{closedTriangles}
+use Rattle.ring_writers.proofs.Lengths.{cylinder-parts}
 use Rattle.ring_writers.specs.ClosedCylinder.{lowOf, cylinderVertices}
 use Rattle.del_msh.specs.Vectors.{vec}
 use Rattle.del_msh.specs.Arrays.{Outside, minus, xyz, zero, one, zeros}
@@ -82,6 +83,7 @@ module _ (outside : Outside) (r l : Float) (n S : ℕ) (centred : Bool) (three :
       ap floats yup-vertices
       ∙ closed-floats bottom rings top
       ∙ ap (λ (l : List Float). coordinates bottom ++ (l ++ coordinates top)) (rings-floats (S + 1) vertex n)
+      ∙ sym (cylinder-parts r l n S centred)
 
   pub yup-triangles : cylinder-closed-end-yup outside r l n S centred .0 ≡ closedTriangles n S
   unfolding cylinder-closed-end-yup

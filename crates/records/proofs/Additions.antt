@@ -73,7 +73,7 @@ no-record words h = by (beginsWithRecord words) refl where
   by true e = absurd (omega (arith, record-length words e))
   by false e = e
 
--- the additions of one record, and the others behind them
+-- the additions of one record, and the others after them
 abbrev following : List ℕ → List Addition → List Addition
 following words others = allIf words others (beginsWithRecord words)
 
@@ -105,7 +105,7 @@ enough (suc n) (suc m) words h k =
     shorter : beginsWithRecord words ≡ true → (n : ℕ) → length words ≤ suc n → length (drop (recordWords words) words) ≤ n
     shorter b n h = omega (arith, length-drop (recordWords words) words, record-length words b, whole words b .head)
 
--- one record, and the others behind it
+-- one record, and the others after it
 pub additions-next : (words : List ℕ) → beginsWithRecord words ≡ true
     → additionsIn words ≡ firstAddition words ++ additionsIn (drop (recordWords words) words)
 unfolding additionsIn
@@ -124,11 +124,11 @@ additions-none words b =
     enough (length words) (suc (length words)) words (omega arith) (omega arith)
     ∙ ap (allIf words (additionsOf (length words) (drop (recordWords words) words))) b
 
--- calls that come behind others
-abbrev pub behind : List (Answer (Unit {0})) → Called → Called
-behind before r = record { answers = before ++ r .answers; left = r .left }
+-- calls that come after others, which gave the answers `before`
+abbrev pub precededBy : List (Answer (Unit {0})) → Called → Called
+precededBy before r = record { answers = before ++ r .answers; left = r .left }
 
 pub additions-append : (list more : List Addition) (s : Buffers)
-    → additions (list ++ more) s ≡ behind (additions list s .answers) (additions more (additions list s .left))
+    → additions (list ++ more) s ≡ precededBy (additions list s .answers) (additions more (additions list s .left))
 additions-append [] more s = refl
 additions-append (a ∷ list) more s = ap (answered (addition a s .answer)) (additions-append list more (addition a s .left))

@@ -12,5 +12,5 @@ use Rattle.records.specs.Built.{ledgerSet}
 pub all-added : (s : Buffers) (list : List Addition) → clearAnswer (s .table) ≡ accepted tt
     → clearAndAdd list s ≡ record { answers = repliesTo (lengthsOf s) empty list; left = ledgerSet s list }
 all-added s list ok =
-    let d = demand-3 s list ok in
+    let d = demand-3 .clear s list ok in
     (λ j. record { answers = d .answers j; left = buffers (d .table j) (d .vertices j) (d .triangles j) })

@@ -1,4 +1,5 @@
--- The buffers that build leaves are those of the calls, so their file is the ledger's. Assumes nothing.
+-- The buffers that build leaves are those of the calls, so their file is the ledger's. Assumes
+-- nothing.
 use mathlib.Core.Path.{sym, ap, _∙_}
 use Rattle.answers.specs.Answers.{Answer}
 use Rattle.set_file.specs.File.{fileWordOf}
@@ -15,4 +16,4 @@ file-of-build records answers s ok place =
     let list = additionsIn records in
     ap (λ (answer : Answer (Unit {0})). fileWordOf (builtBy answer list answers s .left) place) ok
     ∙ sym (ap (λ (r : Called). fileWordOf (r .left) place) (all-added s list ok))
-    ∙ file-of-set s list ok place
+    ∙ file-of-set .clear s list ok place

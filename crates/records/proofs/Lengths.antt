@@ -1,4 +1,5 @@
--- The length that a head names: of the record, where its words are there, and of its words alone. Assumes nothing.
+-- The length that a head names: of the record, where its words are there, and of its words alone.
+-- Assumes nothing.
 use mathlib.Core.Path.{_≡_, refl, sym, ap, _∙_}
 use mathlib.Core.Bool.{Bool, true, false, cond, _&&_}
 use mathlib.Core.List.{List}
@@ -16,7 +17,8 @@ module _ (words : List ℕ) where
   abbrev whole-length : ℕ
   whole-length = headWords + 3 * verticesNamed words
 
-  -- the two definitions, once it is known whether there is a head, and whether its record's words are there
+  -- the two definitions, once it is known whether there is a head, and whether its record's words
+  -- are there
   abbrev wordsIf : Bool → Bool → ℕ
   wordsIf named fits = cond (named && fits) whole-length 0
 
@@ -84,7 +86,8 @@ record-fits words = by (beginsWithRecord words) refl where
   by true e = omega (arith, record-length words e, whole words e .coordinates)
   by false e = omega (arith, ap (λ (b : Bool). cond b (headWords + 3 * verticesNamed words) 0) e)
 
--- a record at the front of the first k words lies at the front of all, and has all of its own words
+-- a record at the front of the first k words lies at the front of all, and has all of its own
+-- words
 pub first-alone : (k : ℕ) (words : List ℕ) {r : ℕ} → r ≡ recordWords (take k words) → (r ≤ length words) × (r ≡ recordWords (take r words))
 first-alone k words {r} is =
     let fits : r ≤ length (take k words) = omega (arith, is, record-fits (take k words)) in (

@@ -1,4 +1,5 @@
--- How far a loop over records has come: what is done and what remains give the whole. Assumes nothing.
+-- How far a loop over records has come: what is done and what remains give the whole. Assumes
+-- nothing.
 use mathlib.Core.Path.{_≡_, refl, sym, ap, _∙_}
 use mathlib.Core.Bool.{true, false}
 use mathlib.Core.List.{List, [], _++_, append-nil, append-assoc, map-append}
@@ -16,14 +17,15 @@ use Rattle.records.specs.Records.{beginsWithRecord, recordWords, firstAd
 use Rattle.records.specs.Built.{repliesIn, numbersOf}
 use Rattle.records.specs.declared.reply.Reply.{Reply}
 use Rattle.records.specs.declared.reply.Reply.the-variants.{Skipped, Answered}
-use Rattle.records.proofs.Additions.{whole, record-length, additions-next, additions-none, behind, additions-append}
+use Rattle.records.proofs.Additions.{whole, record-length, additions-next, additions-none, precededBy, additions-append}
 
--- The records in front of place `at` have been read and i answers put down. The buffers held s₀ and answers₀, and hold s and answers.
+-- The records before place `at` have been read and i answers written. The buffers held s₀ and
+-- answers₀, and hold s and answers.
 pub record Progress (records answers₀ : List ℕ) (s₀ : Buffers) (answers : List ℕ) (s : Buffers) (at i : ℕ) : Type 0 where
   -- what the calls so far answered
   pub done : List (Answer (Unit {0}))
   -- with the calls that remain they give the whole
-  pub gives : additions (additionsIn records) s₀ ≡ behind done (additions (additionsIn (drop at records)) s)
+  pub gives : additions (additionsIn records) s₀ ≡ precededBy done (additions (additionsIn (drop at records)) s)
   pub written : answers ≡ overwrite 0 (numbersOf done) answers₀
   pub counted : i ≡ length done
   pub fewer : i ≤ at
@@ -35,9 +37,9 @@ one-reply : (reply : Reply) → length (repliesIn reply) ≤ 1
 one-reply Skipped = omega arith
 one-reply (Answered outcome) = omega arith
 
--- the calls of the first record, and those of the others behind them
+-- the calls of the first record, and those of the others after them
 first-apart : (words : List ℕ) (s : Buffers) → beginsWithRecord words ≡ true → let first = additions (firstAddition words) s in
-    additions (additionsIn words) s ≡ behind (first .answers) (additions (additionsIn (drop (recordWords words) words)) (first .left))
+    additions (additionsIn words) s ≡ precededBy (first .answers) (additions (additionsIn (drop (recordWords words) words)) (first .left))
 first-apart words s begins =
     ap (λ (list : List Addition). additions list s) (additions-next words begins)
     ∙ additions-append (firstAddition words) (additionsIn (drop (recordWords words) words)) s
@@ -73,13 +75,13 @@ module _ (records answers₀ : List ℕ) (s₀ : Buffers) where
       drop-drop (recordWords rest) at records ∙ ap (λ (k : ℕ). drop (at + k) records) (sym size) in
       let others = additions (additionsIn (drop (at + words) records)) s′ in
       let sized : length (numbersOf done) ≡ i = length-map done numberIn ∙ sym (p .counted) in
-      let behind-i = put ∙ ap (λ (k : ℕ). overwrite k (numbersOf replies) answers) (sym (zero-add i)) in
+      let from-i = put ∙ ap (λ (k : ℕ). overwrite k (numbersOf replies) answers) (sym (zero-add i)) in
       record {
         done = done ++ replies;
         gives = p .gives
-            ∙ ap (behind done) (first-apart rest s begins ∙ (λ j. behind (sym calls j .answers) (additions (additionsIn (on j)) (sym calls j .left))))
+            ∙ ap (precededBy done) (first-apart rest s begins ∙ (λ j. precededBy (sym calls j .answers) (additions (additionsIn (on j)) (sym calls j .left))))
             ∙ (λ j. record { answers = sym (append-assoc done replies (others .answers)) j; left = others .left });
-        written = written-behind 0 (numbersOf done) (numbersOf replies) answers₀ (p .written) sized behind-i
+        written = written-behind 0 (numbersOf done) (numbersOf replies) answers₀ (p .written) sized from-i
             ∙ ap (λ (l : List ℕ). overwrite 0 l answers₀) (sym (map-append numberIn done replies));
         counted = more ∙ ap (λ (k : ℕ). k + length replies) (p .counted) ∙ sym (length-append done replies);
         fewer = omega (arith, one-reply reply, p .fewer, record-length rest begins);
@@ -93,7 +95,7 @@ module _ (records answers₀ : List ℕ) (s₀ : Buffers) where
     all : additions (additionsIn records) s₀ ≡ record { answers = p .done; left = s }
     all =
         p .gives
-        ∙ ap (λ (list : List Addition). behind (p .done) (additions list s)) (additions-none (drop at records) none)
+        ∙ ap (λ (list : List Addition). precededBy (p .done) (additions list s)) (additions-none (drop at records) none)
         ∙ (λ j. record { answers = append-nil (p .done) j; left = s })
 
     pub all-left : s ≡ additions (additionsIn records) s₀ .left

@@ -9,12 +9,13 @@ use Rattle.set_table.specs.Buffers.{Buffers, buffers, lengthsOf}
 use Rattle.shared_set.specs.Set.{clearAnswer}
 use Rattle.ledger.specs.Ledger.{empty, Addition, repliesTo, setTable, setVertices, setTriangles}
 use Rattle.ledger.specs.Calls.{Called}
-use Rattle.ledger.specs.Demand3.{ledgerOf, stainedVertices, beginsWith}
+use Rattle.ledger.specs.Holds.{beginsWith}
+use Rattle.ledger.specs.Demand3.{ledgerOf, zeroedVertices}
 use Rattle.records.specs.Records.{additionsIn}
 use Rattle.records.specs.declared.reply.Reply.{Reply}
 use Rattle.records.specs.declared.reply.Reply.the-variants.{Skipped, Answered}
 
--- the answers of one record: one, or none where it is skipped
+-- the answers of one record: one, or none if it is skipped
 abbrev pub repliesIn : Reply → List (Answer (Unit {0}))
 repliesIn Skipped = []
 repliesIn (Answered outcome) = outcomeAnswer outcome ∷ []
@@ -22,7 +23,7 @@ repliesIn (Answered outcome) = outcomeAnswer outcome ∷ []
 abbrev pub called : List (Answer (Unit {0})) → List ℕ → List Float → List ℕ → Called
 called answers table vertices triangles = record { answers = answers; left = buffers table vertices triangles }
 
--- document 01's numbers, 0 where nothing is refused
+-- document 01's numbers, 0 for what is accepted
 abbrev pub numbersOf : List (Answer (Unit {0})) → List ℕ
 numbersOf answers = map numberIn answers
 
@@ -31,7 +32,7 @@ abbrev pub ledgerSet : Buffers → List Addition → Buffers
 ledgerSet s list =
     buffers
     (beginsWith (setTable (ledgerOf s list)) (s .table))
-    (beginsWith (setVertices (ledgerOf s list)) (stainedVertices s list))
+    (beginsWith (setVertices (ledgerOf s list)) (zeroedVertices s list))
     (beginsWith (setTriangles (ledgerOf s list)) (s .triangles))
 
 -- the clear's answer, the buffer of answers and the three buffers

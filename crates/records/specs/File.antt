@@ -18,4 +18,5 @@ use Rattle.records.specs.Built.{builtOf}
 -- reads the word of the ledger's file there, or 5 at or past its end.
 abbrev pub FileOfBuild : Type 0
 FileOfBuild = (records answers : List ℕ) (s : Buffers) → clearAnswer (s .table) ≡ accepted tt
-    → (place : ℕ) → fileWordOf (builtOf records answers s .left) place ≡ wordIn (setFile (ledgerOf s (additionsIn records))) place
+    → (place : ℕ)
+    → fileWordOf (builtOf records answers s .left) place ≡ wordIn (setFile (ledgerOf s (additionsIn records))) place

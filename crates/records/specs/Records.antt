@@ -13,7 +13,7 @@ use Rattle.descriptions.specs.declared.kind.Described.{Described}
 use Rattle.descriptions.specs.declared.kind.Described.the-variants.{Known, Unknown}
 use Rattle.ledger.specs.Ledger.{Addition}
 
--- the words in front of the coordinates
+-- the words before the coordinates
 abbrev pub headWords : ℕ
 headWords = 7
 
@@ -28,7 +28,7 @@ verticesNamed words = getD words 6 0
 unfoldable pub headNames : List ℕ → Bool
 headNames words = leb headWords (length words) && leb (verticesNamed words) mostVertices
 
--- the length of the record with this head, 0 where the head is none
+-- the length of the record with this head, 0 if it is no head of a record
 abbrev pub lengthNamed : List ℕ → ℕ
 lengthNamed words = cond (headNames words) (headWords + 3 * verticesNamed words) 0
 
@@ -36,7 +36,7 @@ lengthNamed words = cond (headNames words) (headWords + 3 * verticesNamed words)
 unfoldable pub beginsWithRecord : List ℕ → Bool
 beginsWithRecord words = headNames words && leb (headWords + 3 * verticesNamed words) (length words)
 
--- the length of the record that the words begin with, 0 where they begin with none
+-- the length of the record that the words begin with, 0 if they begin with none
 abbrev pub recordWords : List ℕ → ℕ
 recordWords words = cond (beginsWithRecord words) (headWords + 3 * verticesNamed words) 0
 
@@ -53,7 +53,7 @@ abbrev pub additionOf : Described → List Float → List Addition
 additionOf (Known d) c = record { description = d; curve = c } ∷ []
 additionOf Unknown c = []
 
--- the addition, if it is one, of the record that the words begin with
+-- the addition, if there is one, of the record that the words begin with
 abbrev pub firstAddition : List ℕ → List Addition
 firstAddition words = cond (beginsWithRecord words) (additionOf (describedIn words) (curveIn words)) []
 

@@ -12,8 +12,8 @@ use crate::head::record_words;
 use crate::reply::Reply;
 use answers::Outcome;
 
-// Puts the number that a record got, if it got one, behind i others; past the end of `answers` it
-// is left out.
+// Writes the number that a record got, if it got one, to place `i` of `answers`, unless that is
+// past its end. Answers how many numbers there are now.
 fn put_answer(reply: Reply, answers: &mut [u32], i: usize) -> usize
     requires { ⌜ i + 1 ≤ 18446744073709551615 ⌝ }
     ensures { λ r. ⌜ r ≡ i + length (repliesIn reply) ⌝ }
@@ -30,7 +30,8 @@ fn put_answer(reply: Reply, answers: &mut [u32], i: usize) -> usize
     }
 }
 
-// Adds the bodies of all records, one after the other.
+// Adds the bodies of all records, one after the other, and writes the number that each addition
+// got to `answers`.
 fn add_all(
     records: &[u32],
     answers: &mut [u32],
@@ -39,9 +40,11 @@ fn add_all(
     triangles: &mut [u32],
 )
     ensures { λ _. let s = buffers (now (table .entry)) (now (vertices .entry)) (now (triangles .entry)) in
-        ⌜ buffers (now (table .exit)) (now (vertices .exit)) (now (triangles .exit)) ≡ additions (additionsIn (now (records .entry))) s .left ⌝ }
+        ⌜ buffers (now (table .exit)) (now (vertices .exit)) (now (triangles .exit))
+        ≡ additions (additionsIn (now (records .entry))) s .left ⌝ }
     ensures { λ _. let s = buffers (now (table .entry)) (now (vertices .entry)) (now (triangles .entry)) in
-        ⌜ now (answers .exit) ≡ overwrite 0 (numbersOf (additions (additionsIn (now (records .entry))) s .answers)) (now (answers .entry)) ⌝ }
+        let calls = additions (additionsIn (now (records .entry))) s in
+        ⌜ now (answers .exit) ≡ overwrite 0 (numbersOf (calls .answers)) (now (answers .entry)) ⌝ }
 {
     let mut at: usize = 0;
     let mut i: usize = 0;
@@ -54,10 +57,10 @@ fn add_all(
     }
 }
 
-// Clears the set and adds the bodies of a whole list of records, which ends at a short one or one
-// of too many vertices. The number that each addition got, 0 where it was accepted, goes to
-// `answers`, as far as it reaches: one for each record of a known kind, in order. An empty table
-// is refused, and nothing touched.
+// Clears the set and adds the bodies of a list of records, which ends at a record that is cut
+// short or names too many vertices. Writes the number that each addition got, 0 if it was
+// accepted, to `answers`, as far as it reaches: one for each record of a known kind, in order. An
+// empty table is refused (1), and nothing is written.
 pub fn build(
     records: &[u32],
     answers: &mut [u32],
@@ -65,8 +68,10 @@ pub fn build(
     vertices: &mut [f32],
     triangles: &mut [u32],
 ) -> Outcome
-    ensures { λ r. ⌜ built (outcomeAnswer r) (now (answers .exit)) (buffers (now (table .exit)) (now (vertices .exit)) (now (triangles .exit)))
-        ≡ builtOf (now (records .entry)) (now (answers .entry)) (buffers (now (table .entry)) (now (vertices .entry)) (now (triangles .entry))) ⌝ }
+    ensures { λ r. let before = buffers (now (table .entry)) (now (vertices .entry)) (now (triangles .entry)) in
+        let after = buffers (now (table .exit)) (now (vertices .exit)) (now (triangles .exit)) in
+        ⌜ built (outcomeAnswer r) (now (answers .exit)) after
+        ≡ builtOf (now (records .entry)) (now (answers .entry)) before ⌝ }
 {
     let outcome = shared_set::clear(table);
     if let Outcome::Accepted = outcome {

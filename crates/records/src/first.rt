@@ -11,6 +11,7 @@ ghost use Rattle.ledger.specs.Calls.{additions};
 ghost use Rattle.records.specs.Records.{firstAddition};
 ghost use Rattle.records.specs.Built.{repliesIn, called};
 use crate::head::HEAD_WORDS;
+use crate::head::MOST_VERTICES;
 use crate::head::describe;
 use crate::head::record_words;
 use crate::reply::Reply;
@@ -19,10 +20,10 @@ use descriptions::Described;
 use descriptions::Description;
 use float32::from_word;
 
-// Room for the coordinates of the most vertices that a record may have.
-const ROOM: usize = 1536;
+// The coordinates of the most vertices that a record may have.
+const SCRATCH_FLOATS: usize = 3 * MOST_VERTICES;
 
-// The floats with these bit patterns, whatever they are, to the front of `out`.
+// Writes the floats with the bit patterns `words`, whatever they are, to the front of `out`.
 fn fill_floats(words: &[u32], out: &mut [f32])
     requires { ⌜ length (now words) ≤ length (now out) ⌝ }
     ensures { λ _. ⌜ now (out .exit) ≡ overwrite 0 (map (ofBits binary32) (now (words .entry))) (now (out .entry)) ⌝ }
@@ -34,27 +35,28 @@ fn fill_floats(words: &[u32], out: &mut [f32])
     }
 }
 
-// Adds a body along the curve with these coordinates, by way of `room`.
-fn add_along(
+// Adds the body of `description` whose curve has these coordinates. `scratch` takes them as
+// floats.
+fn add_body(
     description: Description,
     coordinates: &[u32],
-    room: &mut [f32],
+    scratch: &mut [f32],
     table: &mut [u32],
     vertices: &mut [f32],
     triangles: &mut [u32],
 ) -> Outcome
-    requires { ⌜ length (now coordinates) ≤ length (now room) ⌝ }
+    requires { ⌜ length (now coordinates) ≤ length (now scratch) ⌝ }
     ensures { λ r. ⌜ after (outcomeAnswer r) (now (table .exit)) (now (vertices .exit)) (now (triangles .exit))
         ≡ added description (map (ofBits binary32) (now (coordinates .entry)))
         (buffers (now (table .entry)) (now (vertices .entry)) (now (triangles .entry))) ⌝ }
 {
-    fill_floats(coordinates, room);
+    fill_floats(coordinates, scratch);
     let count = coordinates.len();
-    shared_set::add(description, &room[..count], table, vertices, triangles)
+    shared_set::add(description, &scratch[..count], table, vertices, triangles)
 }
 
-// Adds the body of the record that `words` begins with; skips it where it is none, or its kind is
-// none of the five.
+// Adds the body of the record that `words` begins with. Skips words that begin with no record, and
+// a record whose kind is none of the five.
 pub fn add_first(
     words: &[u32],
     table: &mut [u32],
@@ -62,7 +64,8 @@ pub fn add_first(
     triangles: &mut [u32],
 ) -> Reply
     ensures { λ r. ⌜ called (repliesIn r) (now (table .exit)) (now (vertices .exit)) (now (triangles .exit))
-        ≡ additions (firstAddition (now (words .entry))) (buffers (now (table .entry)) (now (vertices .entry)) (now (triangles .entry))) ⌝ }
+        ≡ additions (firstAddition (now (words .entry)))
+        (buffers (now (table .entry)) (now (vertices .entry)) (now (triangles .entry))) ⌝ }
 {
     let end = record_words(words);
     if end == 0 {
@@ -71,12 +74,12 @@ pub fn add_first(
     match describe(words) {
         Described::Unknown => Reply::Skipped,
         Described::Known(description) => {
-            let mut room = [0f32; ROOM];
+            let mut scratch = [0f32; SCRATCH_FLOATS];
             let start = HEAD_WORDS;
-            Reply::Answered(add_along(
+            Reply::Answered(add_body(
                 description,
                 &words[start..end],
-                &mut room,
+                &mut scratch,
                 table,
                 vertices,
                 triangles,

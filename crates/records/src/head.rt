@@ -6,13 +6,14 @@ use descriptions::Described;
 use descriptions::of_kind;
 use float32::from_word;
 
-// How many words a record has in front of its coordinates.
+// How many words a record has before its coordinates.
 pub const HEAD_WORDS: usize = 7;
 
 // The most vertices that a record's curve may have.
-const MOST_VERTICES: usize = 512;
+pub(crate) const MOST_VERTICES: usize = 512;
 
-// The length of the record with this head, 0 where it is too short or names too many vertices.
+// The length of the record that begins with `head`; 0 if the head is too short or names too many
+// vertices.
 pub fn record_length(head: &[u32]) -> usize
     ensures { λ r. ⌜ r ≡ lengthNamed (now (head .entry)) ⌝ }
 {
@@ -26,7 +27,8 @@ pub fn record_length(head: &[u32]) -> usize
     HEAD_WORDS + 3 * vertices
 }
 
-// The length of the record that `words` begins with, 0 where it is short or has too many vertices.
+// The length of the record that `words` begins with; 0 if it is cut short or names too many
+// vertices.
 pub fn record_words(words: &[u32]) -> usize
     ensures { λ r. ⌜ r ≡ recordWords (now (words .entry)) ⌝ }
 {

@@ -1,6 +1,7 @@
 use answers::Outcome;
 
-// What one record got: it was skipped, being none or of no kind, or its addition was answered.
+// What became of one record: it was skipped, because it is none or its kind is unknown, or its
+// addition was answered.
 pub enum Reply {
     Skipped,
     Answered(Outcome),

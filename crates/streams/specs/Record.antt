@@ -8,7 +8,7 @@ use Rattle.records.specs.Records.{recordWords}
 use Rattle.streams.specs.declared.record.Next.{Next}
 use Rattle.streams.specs.declared.record.Next.the-variants.{Record, Stop}
 
--- a record of so many words is at their front, whole and alone
+-- a record of `count` words is at their front, whole and alone
 abbrev pub ReadAs : Next → List ℕ → Type 0
 ReadAs (Record count) words = (0 < count) × (count ≤ length words) × (count ≡ recordWords (take count words))
 ReadAs (Stop why) words = Unit

@@ -1,6 +1,6 @@
-// Reads a stream and writes one, over the C library's read and write: bytes, until a buffer is full or
-// empty, and records. A call that a signal interrupts is made again. Where a call fails, `os::errno`
-// says why until the next one.
+// Reads a stream and writes one, over the C library's read and write: bytes, until a buffer is
+// full or empty, and records. A call that a signal interrupts is made again. If a call fails,
+// `os::errno` says why until the next one.
 mod record;
 
 pub use record::Next;
@@ -15,7 +15,7 @@ ghost use lib.ListN.{length};
 pub enum Filled {
     // To its end.
     Full,
-    // The input ended after so many bytes.
+    // The input ended after this number of bytes.
     Ended(usize),
     // A read failed.
     Failed,

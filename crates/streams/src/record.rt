@@ -29,7 +29,7 @@ pub enum Stop {
 
 // What a read of the next record finds.
 pub enum Next {
-    // A record of so many words.
+    // A record of this number of words.
     Record(usize),
     // No record, and why.
     Stop(Stop),
@@ -51,7 +51,7 @@ fn read_curve(count: usize, bytes: &mut [u8], words: &mut [u32]) -> Next
         Filled::Ended(_) => Next::Stop(Stop::Short),
         Filled::Full => {
             read_words(&bytes[..end], words);
-            // Asked of the words as they now stand, so that the contract can speak of them.
+            // Checked on the words that were read, because the contract speaks of those.
             let whole = record_words(&words[..count]);
             if whole == 0 {
                 return Next::Stop(Stop::Short);
@@ -61,8 +61,8 @@ fn read_curve(count: usize, bytes: &mut [u8], words: &mut [u32]) -> Next
     }
 }
 
-// Reads the next record of standard input to the front of `words`, by way of `bytes`. Both have just
-// the length of the longest record.
+// Reads the next record of standard input to the front of `words`, by way of `bytes`. Both are
+// exactly as long as the longest record.
 pub fn read_record(bytes: &mut [u8], words: &mut [u32]) -> Next
     requires { ⌜ 6172 ≡ length (now bytes) ⌝ }
     requires { ⌜ 1543 ≡ length (now words) ⌝ }

@@ -1,4 +1,5 @@
--- The words of a set's file: what a file word tells of them, and a buffer that is filled with them. Assumes nothing.
+-- The words of a set's file: what a file word tells of them, and a buffer that is filled with
+-- them. Assumes nothing.
 use mathlib.Core.Path.{_≡_, refl, sym, ap, _∙_}
 use mathlib.Core.Bool.{Bool, true, false, cond}
 use mathlib.Core.List.{List, [], _∷_, _++_}
@@ -56,28 +57,28 @@ module _ (s : Buffers) (i : ℕ) where
 -- a buffer to whose front the first i words of `file` were written
 pub record Filled (file words₀ : List ℕ) (i : ℕ) (words : List ℕ) : Type 0 where
   pub within : i ≤ length file
-  pub room : i ≤ length words₀
+  pub fits : i ≤ length words₀
   pub sized : length words ≡ length words₀
   pub holds : words ≡ overwrite 0 (take i file) words₀
 
 module _ (file words₀ : List ℕ) where
   pub none-filled : Filled file words₀ 0 words₀
-  none-filled = record { within = omega arith; room = omega arith; sized = refl; holds = sym (overwrite-none 0 words₀) }
+  none-filled = record { within = omega arith; fits = omega arith; sized = refl; holds = sym (overwrite-none 0 words₀) }
 
   module _ {i : ℕ} {words : List ℕ} (f : Filled file words₀ i words) where
-    -- what is written behind them
-    behind : (more : List ℕ) {words′ : List ℕ} → words′ ≡ overwrite i more words → words′ ≡ overwrite 0 (take i file ++ more) words₀
-    behind more written =
+    -- what is written after them
+    more-written : (more : List ℕ) {words′ : List ℕ} → words′ ≡ overwrite i more words → words′ ≡ overwrite 0 (take i file ++ more) words₀
+    more-written more written =
         written-behind 0 (take i file) more words₀ (f .holds) (length-take-le i file (f .within))
         (written ∙ ap (λ (k : ℕ). overwrite k more words) (sym (zero-add i)))
 
     pub one-filled : {w : ℕ} → i < length words → i < length file → w ≡ getD file i 0 → Filled file words₀ (i + 1) (set words i w)
-    one-filled {w} room more is =
+    one-filled {w} fits more is =
         let next : take (i + 1) file ≡ take i file ++ (w ∷ []) = rw (add-one i, is) (take-suc file i 0 more) in record {
           within = omega arith;
-          room = omega (arith, f .sized);
+          fits = omega (arith, f .sized);
           sized = length-set words i w ∙ f .sized;
-          holds = behind (w ∷ []) (one-store i w words) ∙ ap (λ (l : List ℕ). overwrite 0 l words₀) (sym next);
+          holds = more-written (w ∷ []) (one-store i w words) ∙ ap (λ (l : List ℕ). overwrite 0 l words₀) (sym next);
         }
 
     -- how many are written, and what the buffer holds, where no word is left, or no room
@@ -90,5 +91,5 @@ module _ (file words₀ : List ℕ) where
     pub no-room-left : length words ≤ i → Whole
     no-room-left h = (
       omega (arith, f .sized),
-      behind (drop i file) (overwrite-past i (drop i file) words h) ∙ ap (λ (l : List ℕ). overwrite 0 l words₀) (take-append-drop i file),
+      more-written (drop i file) (overwrite-past i (drop i file) words h) ∙ ap (λ (l : List ℕ). overwrite 0 l words₀) (take-append-drop i file),
     )

@@ -1,3 +1,3 @@
 pub mod Filled
 pub mod Whole
-mod Fed
+mod AfterRecords

@@ -9,9 +9,10 @@ use Rattle.set_table.specs.Buffers.{Buffers}
 use Rattle.set_file.specs.File.{fileIn}
 use Rattle.little_endian.specs.Words.{bytesIn}
 
--- none where the table is damaged
+-- none if the table is damaged
 unfoldable pub fileWords : Buffers → List ℕ
-fileWords s = cond (undamaged (s .table) (length (s .vertices)) (length (s .triangles))) (fileIn (totalsIn (s .table)) s) []
+fileWords s =
+    cond (undamaged (s .table) (length (s .vertices)) (length (s .triangles))) (fileIn (totalsIn (s .table)) s) []
 
 abbrev pub fileBytes : Buffers → List ℕ
 fileBytes s = bytesIn (fileWords s)

@@ -30,8 +30,8 @@ abbrev pub additionsFrom : Records → List Addition
 additionsFrom none = []
 additionsFrom (then R words) = additionsFrom R ++ firstAddition words
 
--- the buffers after so many records
-pub record Fed (count : ℕ) (before after : Buffers) : Type 0 where
+-- what `after` is to `before`: the additions of `count` whole records were made in between
+pub record AfterRecords (count : ℕ) (before after : Buffers) : Type 0 where
   pub records : Records
   pub counted : count ≡ recordCount records
   pub whole : EachWhole records

@@ -4,7 +4,7 @@
 // A record that is refused or whose kind is not 1 to 5 is skipped, and nothing is said of it. The
 // reading stops at a record that is cut short or names more than 512 curve vertices, and where a
 // read fails. The set then has the records before that, and a line on standard error says why.
-// Another says so where the set could not be written whole. A read or a write that a signal
+// Another says so if the set could not be written whole. A read or a write that a signal
 // interrupts is made again. The exit status is 0 in all these cases, since the language has no
 // other; a pipe that nobody reads any more ends the program by the system's signal.
 mod input;

@@ -17,9 +17,11 @@ const BYTES: usize = 4 * WORDS;
 
 // Writes the file's words to the front of `words`, as many as fit, and answers how many these are.
 fn fill_file(table: &[u32], vertices: &[f32], triangles: &[u32], words: &mut [u32]) -> usize
-    ensures { λ r. let file = fileWords (buffers (now (table .entry)) (now (vertices .entry)) (now (triangles .entry))) in
+    ensures { λ r. let s = buffers (now (table .entry)) (now (vertices .entry)) (now (triangles .entry)) in
+        let file = fileWords s in
         ⌜ r ≡ min (length file) (length (now (words .entry))) ⌝ }
-    ensures { λ _. let file = fileWords (buffers (now (table .entry)) (now (vertices .entry)) (now (triangles .entry))) in
+    ensures { λ _. let s = buffers (now (table .entry)) (now (vertices .entry)) (now (triangles .entry)) in
+        let file = fileWords s in
         ⌜ now (words .exit) ≡ overwrite 0 file (now (words .entry)) ⌝ }
 {
     let mut i: usize = 0;
@@ -38,7 +40,7 @@ fn fill_file(table: &[u32], vertices: &[f32], triangles: &[u32], words: &mut [u3
 }
 
 // Writes the set's file, whole and nothing else, to standard output, and closes it: some file
-// systems tell of a full disk only then. Says on standard error where this fails. The buffers are
+// systems tell of a full disk only then. Says so on standard error if this fails. The buffers are
 // passed only so that the contract can name the file.
 fn write_bytes(table: &[u32], vertices: &[f32], triangles: &[u32], bytes: &[u8])
     requires { ⌜ now bytes ≡ fileBytes (buffers (now table) (now vertices) (now triangles)) ⌝ }
@@ -50,7 +52,7 @@ fn write_bytes(table: &[u32], vertices: &[f32], triangles: &[u32], bytes: &[u8])
 }
 
 // Writes the set's file to standard output, by way of `words` and `bytes`, in which the longest
-// fits.
+// file fits.
 fn write_through(
     table: &[u32],
     vertices: &[f32],

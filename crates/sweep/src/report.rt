@@ -11,8 +11,8 @@ fn say(record: u64, what: &[u8]) {
     write_all(STDERR_FILENO, b"; the set has only the records before it\n");
 }
 
-// Says on standard error why there is no record of this number, counted from 1. Where the input
-// ended after the last record, it says nothing.
+// Says on standard error why there is no record of this number, counted from 1. If the input ended
+// after the last record, it says nothing.
 pub(crate) fn report(why: Stop, record: u64) {
     match why {
         Stop::End => {}

@@ -1,5 +1,6 @@
--- What the C functions on bodies answer: document 01's numbers ('Refused, and through whom'), 0 where nothing is refused, and 2^32 − 1 for
--- a kind outside 1 to 5, for which the paper has no number. Definitions only.
+-- What the C functions on bodies answer: document 01's numbers ('Refused, and through whom'), 0
+-- for what is accepted, and 2^32 − 1 for a kind outside 1 to 5, for which the paper has no number.
+-- Definitions only.
 use mathlib.Core.Bool.{Bool, false}
 use mathlib.Core.List.{List, [], _∷_}
 use Prim.Native.Nat.{ℕ}
@@ -24,7 +25,7 @@ abbrev pub countsNumber : Described → ℕ → ℕ
 countsNumber (Known d) N = numberIn (countsOf d N)
 countsNumber Unknown N = unknownKind
 
--- the two counts where they are accepted, and what was there where not
+-- the two counts if they are accepted, and otherwise what was there
 abbrev pub countsIn : Answer Counts → List ℕ → List ℕ
 countsIn (refused number) old = old
 countsIn (accepted k) old = overwrite 0 (k .vertices ∷ k .triangles ∷ []) old

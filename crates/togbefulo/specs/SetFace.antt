@@ -1,5 +1,5 @@
--- What the C functions on the shared set answer and leave: as Face.antt, 2^32 − 1 for a kind outside 1 to 5, and then nothing is touched.
--- Definitions only.
+-- What the C functions on the shared set answer and leave: as Face.antt, 2^32 − 1 for a kind
+-- outside 1 to 5, and then nothing is touched. Definitions only.
 use mathlib.Core.List.{List, [], _∷_}
 use Prim.Native.Nat.{ℕ}
 use lib.Ieee.{Float}
@@ -15,7 +15,7 @@ abbrev pub addedAs : Described → List Float → Buffers → After
 addedAs (Known d) c s = added d c s
 addedAs Unknown c s = record { answer = refused unknownKind; left = s }
 
--- the word where it is accepted, and what was there where not
+-- the word if it is accepted, and otherwise what was there
 abbrev pub wordAfter : Answer ℕ → List ℕ → List ℕ
 wordAfter (refused number) old = old
 wordAfter (accepted w) old = overwrite 0 (w ∷ []) old

@@ -1,6 +1,8 @@
-// Bodies alone. A description is handed over as document 01's records have it: the kind's number, the divisions, the longitudes of a
-// capsule or the layers of a closed cylinder, whether a closed cylinder is centred, the width or radius, and the length of a closed
-// cylinder; what a kind lacks is ignored. Answers are document 01's numbers, 0 where nothing is refused, and 2^32 − 1 for an unknown kind.
+// Bodies alone. A description is handed over as document 01's records have it: the kind's number,
+// the divisions, the longitudes of a capsule or the layers of a closed cylinder, whether a closed
+// cylinder is centred, the width or radius, and the length of a closed cylinder; what a kind lacks
+// is ignored. Answers are document 01's numbers, 0 for what is accepted, and 2^32 − 1 for an
+// unknown kind.
 ghost use mathlib.Core.Path.{_≡_};
 ghost use Rattle.float32.specs.Scan.{allFinite};
 ghost use Rattle.laws.specs.Overwrite.{placed};
@@ -24,7 +26,7 @@ fn number(verdict: Verdict) -> u32
     }
 }
 
-// Where the answer has counts they are written.
+// Writes the counts, if the answer has them, and answers its number.
 fn put_counts(counted: Counted, counts: &mut [u32; 2]) -> u32
     ensures { λ r. ⌜ r ≡ numberIn (countedAnswer counted) ⌝ }
     ensures { λ r. ⌜ now (counts .exit) ≡ countsIn (countedAnswer counted) (now (counts .entry)) ⌝ }
@@ -42,7 +44,8 @@ fn put_counts(counted: Counted, counts: &mut [u32; 2]) -> u32
     }
 }
 
-// Refusals 10, 20, 21, 22; where there is none, the body's vertices and triangles are counted into `counts`.
+// Writes how many vertices and triangles the body has to `counts`, or refuses the number of curve
+// vertices (10), the divisions (20), the longitudes or layers (21) or a size (22).
 #[no_mangle]
 pub extern "C" fn togbefulo_counts(
     kind: u32,
@@ -55,7 +58,8 @@ pub extern "C" fn togbefulo_counts(
     counts: &mut [u32; 2],
 ) -> u32
     ensures { λ r. ⌜ r ≡ countsNumber (describedOf kind divisions steps centred size length) vertices ⌝ }
-    ensures { λ _. ⌜ now (counts .exit) ≡ countsAfter (describedOf kind divisions steps centred size length) vertices (now (counts .entry)) ⌝ }
+    ensures { λ _. let d = describedOf kind divisions steps centred size length in
+        ⌜ now (counts .exit) ≡ countsAfter d vertices (now (counts .entry)) ⌝ }
 {
     match of_kind(kind, divisions, steps, centred, size, length) {
         Described::Unknown => UNKNOWN_KIND,
@@ -63,7 +67,8 @@ pub extern "C" fn togbefulo_counts(
     }
 }
 
-// Refusals 10, 20, 21, 22, 11, 12, 13.
+// Checks a description and its curve. Refuses what `togbefulo_counts` does (10, 20, 21, 22), then
+// a coordinate that is not finite (11), a segment too short or too long (12) and a fold (13).
 #[no_mangle]
 pub extern "C" fn togbefulo_check(
     kind: u32,
@@ -82,8 +87,9 @@ pub extern "C" fn togbefulo_check(
     }
 }
 
-// Writes the body's vertices to the front of `out`. Where 10, 20 or 21 refuses it, the kind is unknown or `out` is too short, the answer is
-// false and nothing is written.
+// Writes the body's vertices to the front of `out` and answers true. Answers false and writes
+// nothing if the number of curve vertices (10), the divisions (20) or the longitudes or layers
+// (21) are refused, the kind is unknown or `out` is too short.
 #[no_mangle]
 pub extern "C" fn togbefulo_vertices(
     kind: u32,
@@ -95,9 +101,10 @@ pub extern "C" fn togbefulo_vertices(
     curve: &[f32],
     out: &mut [f32],
 ) -> bool
-    ensures { λ r. ⌜ r ≡ isDrawn (describedOf kind divisions steps centred size length) (now (curve .entry)) (now (out .entry)) ⌝ }
-    ensures { λ r. let vertices = drawnVertices (describedOf kind divisions steps centred size length) (now (curve .entry)) in
-        ⌜ now (out .exit) ≡ placed r vertices (now (out .entry)) ⌝ }
+    ensures { λ r. let d = describedOf kind divisions steps centred size length in
+        ⌜ r ≡ isDrawn d (now (curve .entry)) (now (out .entry)) ⌝ }
+    ensures { λ r. let d = describedOf kind divisions steps centred size length in
+        ⌜ now (out .exit) ≡ placed r (drawnVertices d (now (curve .entry))) (now (out .entry)) ⌝ }
 {
     match of_kind(kind, divisions, steps, centred, size, length) {
         Described::Unknown => false,

@@ -37,7 +37,7 @@ pub extern "C" fn togbefulo_from_word(w: u32) -> f32
     float32::from_word(w)
 }
 
-// The cosine and the sine of k / n turn, for k < n ≤ 2 ^ 24; of no turn for other k and n.
+// The cosine and the sine of k / n turn, if k < n ≤ 2 ^ 24, and otherwise of no turn.
 #[no_mangle]
 pub extern "C" fn togbefulo_turn_cos(k: u32, n: u32) -> f32
     ensures { λ c. ⌜ c ≡ turnOf k n .cos ⌝ }

@@ -1,4 +1,4 @@
--- Each turn makes the calls of one record more; behind the last there is none. Assumes nothing.
+-- Each turn makes the calls of one record more; after the last there is none. Assumes nothing.
 use mathlib.Core.Path.{_≡_, sym, ap, _∙_}
 use mathlib.Core.Bool.{true}
 use mathlib.Core.List.{List}

@@ -1,7 +1,7 @@
--- What the calls leave behind an accepted clear is the ledger's, by demand 3; an empty table is not touched. Assumes nothing.
+-- What the calls leave after an accepted clear is the ledger's, by demand 3; an empty table is not
+-- touched. Assumes nothing.
 use mathlib.Core.Path.{_≡_, refl, sym, ap, _∙_}
 use mathlib.Core.Bool.{Bool, cond}
-use mathlib.Core.Logic.{⊎-elim}
 use mathlib.Core.List.{List, [], _∷_}
 use Prim.Native.Nat.{ℕ}
 use native.Mathlib.Omega.{arith}
@@ -40,7 +40,6 @@ untouched list answers s refuses = by (s .table) refuses where
 -- the place of `Accepted` among the outcomes
 accepted-tag : (o : Outcome) → outcomeAnswer o ≡ accepted tt → tagOf the-type o ≡ 0
 accepted-tag outcome.Accepted h = refl
-accepted-tag outcome.NotFinite h = let z : _≡_ {A = ℕ} 0 1 = cc in absurd (omega arith)
 accepted-tag (outcome.Refused why) h = let z : _≡_ {A = ℕ} 0 1 = cc in absurd (omega arith)
 
 abbrev start : tie.After-clear → tie.Start
@@ -52,7 +51,7 @@ held s = buffers (now (s .args .table)) (now (s .args .vertices)) (now (s .args 
 abbrev list : tie.Start → List Addition
 list s = additionsIn (now (s .args .records))
 
--- behind an accepted clear
+-- after an accepted clear
 abbrev called : tie.After-add-all → tie.After-clear
 called a = a .before .before .before .before .before .before .before .before .before
 
@@ -67,12 +66,12 @@ calls a =
     ap (λ (T : List ℕ). additions (list s) (buffers T (held s .vertices) (held s .triangles))) (called a .clear .ensures .1)
     ∙ all-added (held s) (list s) (clears a)
 
--- and behind any other
+-- and after any other
 refuses : (c : tie.At-match-keys2) → clearAnswer (held (start (c .before .before .before)) .table) ≡ accepted tt → ⊥
 refuses c ok =
     let k = c .before .before .before in
     let tag = accepted-tag (k .clear .result) (k .clear .ensures .0 ∙ ok) in
-    ⊎-elim (λ e. omega arith) (λ e. omega arith) (c .match .keys2)
+    omega (arith, tag, c .match .keys2)
 
 clear-requires : tie.Need-clear-requires
 clear-requires c κs = search needs
@@ -105,16 +104,19 @@ returns c =
     (λ j. built ((called a .clear .ensures .0 ∙ clears a) j) (answers j) (left j))
     ∙ ap (λ (answer : Answer (Unit {0})). builtBy answer (list s) before (held s)) (sym (clears a))
 
+enum-told-2 : tie.Need-enum-told-2
+enum-told-2 c = search needs
+
 same-length-5 : tie.Need-same-length-5
 same-length-5 c = search needs
 
 returns-2 : tie.Need-returns-2
 returns-2 c =
-    let k = c .before .before .before in
+    let k = c .before .before .before .before in
     let s = start k in
     let answers = now (s .args .answers) in
     (λ j. built (k .clear .ensures .0 j) answers (buffers (k .clear .ensures .1 j) (held s .vertices) (held s .triangles)))
-    ∙ untouched (list s) answers (held s) (refuses c)
+    ∙ untouched (list s) answers (held s) (refuses (c .before))
 
 pub build-spec : {M : Type 1} → statement M
 build-spec =
@@ -123,6 +125,7 @@ build-spec =
     clear-requires
     enum-told
     add-all-requires
+    enum-told-2
     same-length
     same-length-2
     same-length-3

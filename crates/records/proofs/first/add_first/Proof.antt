@@ -1,4 +1,5 @@
--- A record that is none, or of no kind, asks for no addition; any other for the one that is made. Assumes nothing.
+-- A record that is none, or of no kind, asks for no addition; any other for the one that is made.
+-- Assumes nothing.
 use mathlib.Core.Path.{_≡_, sym, ap, _∙_}
 use mathlib.Core.Bool.{true}
 use mathlib.Core.List.{List, [], map}
@@ -92,23 +93,23 @@ enum-told c = search needs
 enum-known-description : tie.Need-enum-known-description
 enum-known-description c = search needs
 
-mul-add-along : tie.Need-mul-add-along
-mul-add-along c = search needs
+mul-add-body : tie.Need-mul-add-body
+mul-add-body c = search needs
 
-sub-add-along : tie.Need-sub-add-along
-sub-add-along c = from (found c)
+sub-add-body : tie.Need-sub-add-body
+sub-add-body c = from (found c)
 
-part-add-along-start : tie.Need-part-add-along-start
-part-add-along-start c = from (found c)
+part-add-body-start : tie.Need-part-add-body-start
+part-add-body-start c = from (found c)
 
-part-add-along-end : tie.Need-part-add-along-end
-part-add-along-end c = to (found c)
+part-add-body-end : tie.Need-part-add-body-end
+part-add-body-end c = to (found c)
 
-slice-aggregate-add-along : tie.Need-slice-aggregate-add-along
-slice-aggregate-add-along c = search needs
+slice-aggregate-add-body : tie.Need-slice-aggregate-add-body
+slice-aggregate-add-body c = search needs
 
-add-along-requires : tie.Need-add-along-requires
-add-along-requires c κs =
+add-body-requires : tie.Need-add-body-requires
+add-body-requires c κs =
     let e = found (c .before .before .before .before .before) in
     let count = part-count (read e) 7 (e .before .record-words .result) (from e, to e) in
     omega (arith, count, between e, there e .few)
@@ -135,7 +136,7 @@ returns-3 c =
     let r = c .before .before .before .before .before .before .before in
     let k = r .before .before .before .before .before .before in
     let s = held (start (found k .before)) in
-    ap once (r .add-along .ensures ∙ ap (λ (l : List Float). added (description k) l s) (curve k))
+    ap once (r .add-body .ensures ∙ ap (λ (l : List Float). added (description k) l s) (curve k))
     ∙ ap (λ (list : List Addition). additions list s) (asked k)
 
 pub add-first-spec : {M : Type 1} → statement M
@@ -147,12 +148,12 @@ add-first-spec =
     describe-requires
     enum-told
     enum-known-description
-    mul-add-along
-    sub-add-along
-    part-add-along-start
-    part-add-along-end
-    slice-aggregate-add-along
-    add-along-requires
+    mul-add-body
+    sub-add-body
+    part-add-body-start
+    part-add-body-end
+    slice-aggregate-add-body
+    add-body-requires
     returns-2
     same-length
     same-length-2

@@ -1,4 +1,5 @@
--- The buffers have room for the longest record; what is then there of it is handed on. Assumes nothing.
+-- The buffers have room for the longest record; what is then there of it is handed on. Assumes
+-- nothing.
 use native.Mathlib.Omega.{arith}
 use borrow.Author.Needs.{needs}
 use lib.ListN.{length-take, length-drop, length-append}

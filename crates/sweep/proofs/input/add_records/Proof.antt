@@ -1,4 +1,5 @@
--- What was read is one record; no turn of the loop changes a buffer's length, and the count ends it. Assumes nothing.
+-- What was read is one record; no turn of the loop changes a buffer's length, and the count ends
+-- it. Assumes nothing.
 use mathlib.Core.Path.{_≡_, refl, sym}
 use Prim.Native.Nat.{_-_}
 use native.Mathlib.Omega.{arith}
@@ -6,8 +7,8 @@ use borrow.Author.Needs.{needs}
 use lib.ListN.{length}
 use lib.Seq.{length-take-le}
 use Rattle.set_table.specs.Buffers.{buffers}
-use Rattle.sweep.specs.Input.{Fed}
-use Rattle.sweep.proofs.Fed.{read-whole, read-some, fed-none, fed-next}
+use Rattle.sweep.specs.Input.{AfterRecords}
+use Rattle.sweep.proofs.AfterRecords.{read-whole, read-some, none-added, one-added}
 use Rattle.sweep.proofs.input.add_records.Statement.{statement}
 use Rattle.sweep.proofs.input.add_records.Tie as tie
 
@@ -15,7 +16,7 @@ abbrev Inv-loop : tie.InvT-loop
 Inv-loop table₀ vertices₀ triangles₀ bytes₀ words₀ count₀ table vertices triangles bytes words count =
     (6172 ≡ length bytes) × (1543 ≡ length words)
     × (length table ≡ length table₀) × (length vertices ≡ length vertices₀) × (length triangles ≡ length triangles₀)
-    × Fed count (buffers table₀ vertices₀ triangles₀) (buffers table vertices triangles)
+    × AfterRecords count (buffers table₀ vertices₀ triangles₀) (buffers table vertices triangles)
 
 abbrev μ-loop : tie.MeasureT-loop
 μ-loop table₀ vertices₀ triangles₀ bytes₀ words₀ count₀ table vertices triangles bytes words count = 18446744073709551615 - count
@@ -27,7 +28,7 @@ slice-aggregate-words : tie.Need-slice-aggregate-words Inv-loop μ-loop
 slice-aggregate-words c = search needs
 
 loop-holds : tie.Need-loop-holds Inv-loop μ-loop
-loop-holds c = (refl, refl, refl, refl, refl, fed-none _)
+loop-holds c = (refl, refl, refl, refl, refl, none-added _)
 
 read-record-requires : tie.Need-read-record-requires Inv-loop μ-loop
 read-record-requires c κs = omega arith
@@ -83,8 +84,8 @@ loop-again c =
     let l = read .before .before .before .before .loop in
     let found = rw (known .end .given .1) at (read .read-record .ensures) in
     let some = read-some _ _ (found .0) (found .1) in
-    let fed = fed-next _ (l .inv .5) some (read-whole _ _ (found .1) (found .2)) (added .add-record .ensures) in
-    (omega arith, omega arith, omega arith, omega arith, omega arith, fed)
+    let next = one-added _ (l .inv .5) some (read-whole _ _ (found .1) (found .2)) (added .add-record .ensures) in
+    (omega arith, omega arith, omega arith, omega arith, omega arith, next)
 
 same-length-4 : tie.Need-same-length-4 Inv-loop μ-loop
 same-length-4 c = search needs

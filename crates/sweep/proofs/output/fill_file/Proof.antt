@@ -1,4 +1,5 @@
--- Each turn of the loop stores one word of the file behind the last, until none is left, or no room. Assumes nothing.
+-- Each turn of the loop stores one word of the file after the last, until none is left, or no
+-- room. Assumes nothing.
 use Prim.Native.Nat.{_-_}
 use native.Mathlib.Omega.{arith}
 use borrow.Author.Needs.{needs}

@@ -1,4 +1,5 @@
--- `togbefulo_turn_cos` meets its contract: it is the cosine of the direction that `turn` answers. Assumes nothing.
+-- `togbefulo_turn_cos` meets its contract: it is the cosine of the direction that `turn` answers.
+-- Assumes nothing.
 use borrow.Author.Needs.{needs}
 use Rattle.togbefulo.proofs.arithmetic.togbefulo_turn_cos.Statement.{statement}
 use Rattle.togbefulo.proofs.arithmetic.togbefulo_turn_cos.Tie as tie

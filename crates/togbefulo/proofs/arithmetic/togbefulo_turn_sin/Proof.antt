@@ -1,4 +1,5 @@
--- `togbefulo_turn_sin` meets its contract: it is the sine of the direction that `turn` answers. Assumes nothing.
+-- `togbefulo_turn_sin` meets its contract: it is the sine of the direction that `turn` answers.
+-- Assumes nothing.
 use borrow.Author.Needs.{needs}
 use Rattle.togbefulo.proofs.arithmetic.togbefulo_turn_sin.Statement.{statement}
 use Rattle.togbefulo.proofs.arithmetic.togbefulo_turn_sin.Tie as tie

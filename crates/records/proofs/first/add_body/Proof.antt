@@ -1,4 +1,5 @@
--- What is lent as the curve is the front of `room` that was filled with its floats. Assumes nothing.
+-- What is lent as the curve is the front of `scratch` that was filled with its floats. Assumes
+-- nothing.
 use mathlib.Core.Path.{_≡_, sym, ap, _∙_}
 use mathlib.Core.List.{List, map}
 use Prim.Native.Nat.{_+_, _≤_}
@@ -10,8 +11,8 @@ use lib.ListN.{length, take, length-map}
 use Rattle.laws.specs.Lent.{part-written}
 use Rattle.set_table.specs.Buffers.{Buffers, buffers}
 use Rattle.shared_set.specs.Set.{added}
-use Rattle.records.proofs.first.add_along.Statement.{statement}
-use Rattle.records.proofs.first.add_along.Tie as tie
+use Rattle.records.proofs.first.add_body.Statement.{statement}
+use Rattle.records.proofs.first.add_body.Tie as tie
 
 abbrev start : tie.After-fill-floats → tie.Start
 start f = f .before .before .before .before .before .before .before
@@ -27,8 +28,8 @@ filled f =
     let s = start f in
     let count = length (now (s .args .coordinates)) in
     let sized = length-map (now (s .args .coordinates)) (ofBits binary32) in
-    let fits : 0 + count ≤ length (now (s .args .room)) = omega (arith, s .pre) in
-    ap (take count) (f .fill-floats .ensures) ∙ part-written 0 count (curve s) (now (s .args .room)) sized fits
+    let fits : 0 + count ≤ length (now (s .args .scratch)) = omega (arith, s .pre) in
+    ap (take count) (f .fill-floats .ensures) ∙ part-written 0 count (curve s) (now (s .args .scratch)) sized fits
 
 fill-floats-requires : tie.Need-fill-floats-requires
 fill-floats-requires c κs = search needs
@@ -63,8 +64,8 @@ returns c =
     let s = start f in
     a .add .ensures ∙ ap (λ (l : List Float). added (s .args .description) l (held s)) (filled f)
 
-pub add-along-spec : {M : Type 1} → statement M
-add-along-spec =
+pub add-body-spec : {M : Type 1} → statement M
+add-body-spec =
     tie.close
     (tie.spec
     fill-floats-requires
