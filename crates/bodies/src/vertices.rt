@@ -1,15 +1,12 @@
 ghost use mathlib.Core.Path.{_≡_};
 ghost use Prim.Native.Nat.{_*_, _/_, _≤_};
 ghost use lib.ListN.{length};
-ghost use Rattle.laws.specs.Overwrite.{overwrite, placed};
+ghost use Rattle.laws.specs.Overwrite.{overwrite};
 ghost use Rattle.kinds.specs.Kinds.{vertexCount};
 ghost use Rattle.descriptions.specs.Descriptions.{segmentCount, topologyOf};
 ghost use Rattle.descriptions.specs.Refusals.{ShapePermitted};
-ghost use Rattle.bodies.specs.Bodies.{verticesOf, drawable};
-ghost use Rattle.bodies.specs.Bodies.{AlongCurve};
-use crate::draw::draw;
+ghost use Rattle.bodies.specs.Bodies.{verticesOf, CurveDirections};
 use descriptions::Description;
-use descriptions::Verdict;
 use ring_writers::cylinder_closed_end_yup;
 use swept_bodies::set_vtx2xyz_for_generalized_cylinder_open_end;
 use swept_bodies::to_trimesh3_capsule;
@@ -17,7 +14,8 @@ use swept_bodies::to_trimesh3_ribbon;
 use swept_bodies::to_trimesh3_torus;
 
 // Writes the vertices of a body to the front of `out`, from the table of its curve's directions.
-// Its shape is permitted: curve vertices (refusal 10), divisions (20), longitudes or layers (21).
+// Its number of curve vertices (10), its divisions (20) and its longitudes or layers (21) are
+// permitted. `ez` is scratch space.
 pub(crate) fn fill(
     description: Description,
     curve: &[f32],
@@ -27,7 +25,7 @@ pub(crate) fn fill(
 )
     requires { ⌜ ShapePermitted description (length (now curve) / 3) ⌝ }
     requires { ⌜ 3 * vertexCount (topologyOf description (length (now curve) / 3)) ≤ length (now out) ⌝ }
-    requires { ⌜ AlongCurve description (now curve) (now directions) ⌝ }
+    requires { ⌜ CurveDirections description (now curve) (now directions) ⌝ }
     requires { ⌜ segmentCount description (length (now curve) / 3) * 3 ≤ length (now ez) ⌝ }
     ensures { λ _. ⌜ now (out .exit) ≡ overwrite 0 (verticesOf description (now (curve .entry))) (now (out .entry)) ⌝ }
 {
@@ -62,28 +60,5 @@ pub(crate) fn fill(
             radius,
             length,
         } => { cylinder_closed_end_yup(out, radius, length, n as u16, layers as u16, centred) }
-    }
-}
-
-// Writes the body's vertices to the front of `out`, whatever floats its sizes and its curve have,
-// and answers true. If its shape is refused, for its number of curve vertices (refusal 10), its
-// divisions (20) or its longitudes or layers (21), or if `out` is too short, it answers false and
-// writes nothing.
-pub fn write_vertices(description: Description, curve: &[f32], out: &mut [f32]) -> bool
-    ensures { λ r. ⌜ r ≡ drawable description (now (curve .entry)) (length (now (out .entry))) ⌝ }
-    ensures { λ r. ⌜ now (out .exit) ≡ placed r (verticesOf description (now (curve .entry))) (now (out .entry)) ⌝ }
-{
-    if curve.len() % 3 != 0 {
-        return false;
-    }
-    match description.shape(curve.len() / 3) {
-        Verdict::Refused(_) => false,
-        Verdict::Accepted(body) => {
-            if 3 * body.vertex_count() > out.len() as u64 {
-                return false;
-            }
-            draw(description, curve, true, true, out);
-            true
-        }
     }
 }
