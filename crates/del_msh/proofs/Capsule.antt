@@ -20,6 +20,7 @@ use Rattle.curve.specs.Segments.{verticesIn}
 use Rattle.rings.specs.Vertices.{bottomPole, topPole, bottomVertex, topVertex, capVertex}
 use Rattle.swept_bodies.specs.Polyline3 as paper
 use Rattle.swept_bodies.specs.Capsule.{capsuleVertices}
+use Rattle.swept_bodies.proofs.Parts.{capsule-parts}
 use Rattle.del_msh.specs.Arrays.{minus, Outside, read, one}
 use Rattle.del_msh.specs.DelGeoCore.{TAU, FRAC-PI-2, mul, div, cos, sin}
 use Rattle.del_msh.specs.Trimesh3Primitive.{cylinder-closed-end-yup}
@@ -36,8 +37,9 @@ use Rattle.del_msh.proofs.Tube.{side, side-is}
 quarter-turn : (k L : ℕ) → turnOf (1 * k) (4 * L) ≡ turnOf k (4 * L)
 quarter-turn k L = ap (λ (i : ℕ). turnOf i (4 * L)) (one-mul k)
 
+-- pole and cap, the inner rings, cap and pole
 five-parts : (bottom : Point) (a b e : List Point) (top : Point)
-    → floats ((((bottom ∷ []) ++ a) ++ b ++ e) ++ (top ∷ [])) ≡ coordinates bottom ++ (floats a ++ (floats b ++ (floats e ++ coordinates top)))
+    → floats ((((bottom ∷ []) ++ a) ++ b ++ e) ++ (top ∷ [])) ≡ (coordinates bottom ++ floats a) ++ (floats b ++ (floats e ++ coordinates top))
 five-parts bottom a b e top = ap (λ (l : List Float). coordinates bottom ++ l) (
     floats-append (a ++ b ++ e) (top ∷ [])
     ∙ ap (λ (l : List Float). l ++ coordinates top) (floats-append (a ++ b) e ∙ ap (λ (l : List Float). l ++ floats e) (floats-append a b))
@@ -193,7 +195,8 @@ module _ (outside : Outside) (c : List Float) (m : ℕ) (is : verticesIn c ≡ m
       ap floats points
       ∙ ap (λ (k : ℕ). floats (parts k)) between
       ∙ five-parts bottom A (B (m - 1)) C top
-      ∙ (λ j. coordinates bottom ++ (a j ++ (b j ++ (d j ++ coordinates top))))
+      ∙ (λ j. (coordinates bottom ++ a j) ++ (b j ++ (d j ++ coordinates top)))
+      ∙ sym (capsule-parts n L r m c h)
 
   pub capsule-triangles : rust.to-trimesh3-capsule outside (chunks c) n L r .0 ≡ closedTriangles n (2 * L + m - 2)
   unfolding rust.to-trimesh3-capsule

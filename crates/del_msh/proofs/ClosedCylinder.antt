@@ -1,5 +1,5 @@
 -- The closed cylinder of trimesh3_primitive.rs is document 01's. Assumes nothing.
-use mathlib.Core.Path.{_≡_, refl, ap, _∙_}
+use mathlib.Core.Path.{_≡_, refl, sym, ap, _∙_}
 use mathlib.Core.Bool.{Bool, cond}
 use mathlib.Core.List.{List, [], _∷_, _++_}
 use Prim.Native.Nat.{ℕ, _+_, _*_, _≤_, _<_}
@@ -15,6 +15,7 @@ use Rattle.vec3.specs.declared.turns.Direction.{Direction}
 use Rattle.rings.specs.Vertices.{levelAt, levelVertex, pole}
 use Rattle.kinds.specs.Lists.{closedTriangles}
 use Rattle.ring_writers.specs.ClosedCylinder.{lowOf, cylinderVertices}
+use Rattle.ring_writers.proofs.Lengths.{cylinder-parts}
 use Rattle.del_msh.specs.Vectors.{vec}
 use Rattle.del_msh.specs.Arrays.{Outside, minus, xyz, zero, one, zeros}
 use Rattle.del_msh.specs.DelGeoCore.{cos, sin}
@@ -82,6 +83,7 @@ module _ (outside : Outside) (r l : Float) (n S : ℕ) (centred : Bool) (three :
       ap floats yup-vertices
       ∙ closed-floats bottom rings top
       ∙ ap (λ (l : List Float). coordinates bottom ++ (l ++ coordinates top)) (rings-floats (S + 1) vertex n)
+      ∙ sym (cylinder-parts r l n S centred)
 
   pub yup-triangles : cylinder-closed-end-yup outside r l n S centred .0 ≡ closedTriangles n S
   unfolding cylinder-closed-end-yup

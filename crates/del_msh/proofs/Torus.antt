@@ -66,7 +66,7 @@ module _ (outside : Outside) (c : List Float) (N : ℕ) (is : verticesIn c ≡ N
 
   module _ (r : Float) (n : ℕ) where
     abbrev round : ℕ → Direction → Point
-    round g = torusVertex (paper.axesOf N c g) r
+    round g = torusVertex (paper.axesOf N c (paper.vtx2framex N c g) g) r
 
     torus-points : rust.to-trimesh3-torus outside (chunks c) (rust.vtx2framex outside (chunks c)) r n .1 ≡ ringsPoints N round n
     unfolding rust.to-trimesh3-torus cos sin torusVertex paper.axesOf axesAt segmentDirection segmentOf
@@ -76,7 +76,7 @@ module _ (outside : Outside) (c : List Float) (N : ℕ) (is : verticesIn c ≡ N
         let x = ex-at g hg in
         let d = whole-turn i n in
         let y : crossOf (normalised (differenceOf (read outside (chunks c) (remainder outside (g + 1) N)) (read outside (chunks c) g))) (read outside (rust.vtx2framex outside (chunks c)) g)
-        ≡ paper.axesOf N c g .ey = λ j. crossOf (normalised (differenceOf (next g j) (p j))) (x j) in
+        ≡ paper.axesOf N c (paper.vtx2framex N c g) g .ey = λ j. crossOf (normalised (differenceOf (next g j) (p j))) (x j) in
         λ j. t ++ (sumOf (p j) (scaled (sumOf (scaled (x j) (d j .cos)) (scaled (y j) (d j .sin))) r) ∷ [])))
 
     pub torus-floats : floats (rust.to-trimesh3-torus outside (chunks c) (rust.vtx2framex outside (chunks c)) r n .1) ≡ paper.torusVertices n r N c
