@@ -12,7 +12,8 @@ use Rattle.curve.specs.Segments.{verticesIn}
 use Rattle.descriptions.specs.Descriptions.{curveChain, segmentsOf, segmentCount, topologyOf}
 use Rattle.descriptions.specs.Refusals.{ShapePermitted}
 use Rattle.descriptions.specs.declared.description.Description.{Description}
-use Rattle.descriptions.specs.declared.description.Description.the-variants.{Ribbon, Tube, Capsule, Torus, ClosedCylinder}
+use Rattle.descriptions.specs.declared.description.Description.the-variants.{Ribbon, Tube, Capsule, Torus}
+use Rattle.descriptions.specs.declared.description.Description.the-variants.{ClosedCylinder}
 use Rattle.descriptions.proofs.Shapes.{shape-bounds, vertices-most}
 use Rattle.swept_bodies.specs.Tables.{OpenCurve, ClosedCurve}
 use Rattle.swept_bodies.specs.Capsule.{CapsuleFits}
@@ -25,14 +26,18 @@ Asks (Capsule n L r) c table room = OpenCurve c table × CapsuleFits (verticesIn
 Asks (Torus n r) c table room = ClosedCurve c table × (n ≤ 256) × (verticesIn c * (n * 3) ≤ room)
 Asks (ClosedCylinder n S centred r l) c table room = (n ≤ 256) × (S ≤ 4096) × ((S + 1) * (n * 3) + 6 ≤ room)
 
-pub asks : (d : Description) (c table : List Float) (room : ℕ) → ShapePermitted d (verticesIn c) → 3 * vertexCount (topologyOf d (verticesIn c)) ≤ room
+pub asks : (d : Description) (c table : List Float) (room : ℕ) → ShapePermitted d (verticesIn c)
+    → 3 * vertexCount (topologyOf d (verticesIn c)) ≤ room
     → CurveDirections d c table → Asks d c table room
 asks (Ribbon w) c table room h fits along =
     let b = shape-bounds (Ribbon w) (verticesIn c) h in
     (record { segment = b .0; most = vertices-most (Ribbon w) (verticesIn c) (h .0); table = along }, omega arith)
 asks (Tube n r) c table room h fits along =
-    let b = shape-bounds (Tube n r) (verticesIn c) h in
-    (record { segment = b .1 .0; most = vertices-most (Tube n r) (verticesIn c) (h .0); table = along }, b .0 .1, omega arith)
+    let b = shape-bounds (Tube n r) (verticesIn c) h in (
+      record { segment = b .1 .0; most = vertices-most (Tube n r) (verticesIn c) (h .0); table = along },
+      b .0 .1,
+      omega arith,
+    )
 asks (Capsule n L r) c table room h fits along =
     let m = verticesIn c - 1 in
     let b = shape-bounds (Capsule n L r) (verticesIn c) h in
@@ -42,8 +47,11 @@ asks (Capsule n L r) c table room h fits along =
       record { ring = b .0 .1; cap = b .2; within = omega (arith, rings) },
     )
 asks (Torus n r) c table room h fits along =
-    let b = shape-bounds (Torus n r) (verticesIn c) h in
-    (record { segment = omega arith; most = vertices-most (Torus n r) (verticesIn c) (h .0); table = along }, b .0 .1, omega arith)
+    let b = shape-bounds (Torus n r) (verticesIn c) h in (
+      record { segment = omega arith; most = vertices-most (Torus n r) (verticesIn c) (h .0); table = along },
+      b .0 .1,
+      omega arith,
+    )
 asks (ClosedCylinder n S centred r l) c table room h fits along =
     let b = shape-bounds (ClosedCylinder n S centred r l) (verticesIn c) h in
     (b .0 .1, b .1 .1, omega arith)

@@ -27,7 +27,8 @@ module _ (d : Description) (c : List Float) (room : ℕ) where
   total = vertexCount (topologyOf d N)
 
   -- a shape that was accepted: what the room decides
-  pub fitted : {body : Topology} {r : Bool} → length c % 3 ≡ 0 → accepted body ≡ shapeOf d N → r ≡ fits (vertexCount body) room → r ≡ drawable d c room
+  pub fitted : {body : Topology} {r : Bool} → length c % 3 ≡ 0 → accepted body ≡ shapeOf d N
+      → r ≡ fits (vertexCount body) room → r ≡ drawable d c room
   unfolding drawable
   fitted whole shape is =
       let body = accepted-by (shapeTests d N) (topologyOf d N) shape .0 in

@@ -11,7 +11,8 @@ use Rattle.curve.specs.Segments.{verticesIn}
 use Rattle.descriptions.specs.Descriptions.{topologyOf}
 use Rattle.descriptions.specs.Refusals.{ShapePermitted}
 use Rattle.descriptions.specs.declared.description.Description.{Description}
-use Rattle.descriptions.specs.declared.description.Description.the-variants.{Ribbon, Tube, Capsule, Torus, ClosedCylinder}
+use Rattle.descriptions.specs.declared.description.Description.the-variants.{Ribbon, Tube, Capsule, Torus}
+use Rattle.descriptions.specs.declared.description.Description.the-variants.{ClosedCylinder}
 use Rattle.descriptions.proofs.Shapes.{shape-bounds}
 use Rattle.ring_writers.proofs.Lengths.{length-cylinder}
 use Rattle.swept_bodies.proofs.Lengths.{length-ribbon, length-tube, length-capsule, length-torus}
@@ -33,5 +34,7 @@ length-vertices (Torus n r) c h = omega (arith, length-torus n r (verticesIn c) 
 length-vertices (ClosedCylinder n S centred r l) c h = omega (arith, length-cylinder r l n S centred)
 
 -- so nothing of what is drawn is cut at the buffer's end
-pub nothing-cut : (d : Description) (c : List Float) (room : ℕ) → drawable d c room ≡ true → length (verticesOf d c) ≤ room
-nothing-cut d c room h = subst (λ (k : ℕ). k ≤ room) (sym (length-vertices d c (drawn-shape d c room h))) (drawn-room d c room h)
+pub nothing-cut : (d : Description) (c : List Float) (room : ℕ) → drawable d c room ≡ true
+    → length (verticesOf d c) ≤ room
+nothing-cut d c room h = subst (λ (k : ℕ). k ≤ room) (sym (length-vertices d c (drawn-shape d c room h)))
+    (drawn-room d c room h)

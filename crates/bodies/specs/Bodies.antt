@@ -14,7 +14,8 @@ use Rattle.answers.specs.Answers.{isAccepted}
 use Rattle.descriptions.specs.Descriptions.{curveChain, segmentCount, topologyOf}
 use Rattle.descriptions.specs.Refusals.{wholeVertices, shapeOf}
 use Rattle.descriptions.specs.declared.description.Description.{Description}
-use Rattle.descriptions.specs.declared.description.Description.the-variants.{Ribbon, Tube, Capsule, Torus, ClosedCylinder}
+use Rattle.descriptions.specs.declared.description.Description.the-variants.{Ribbon, Tube, Capsule}
+use Rattle.descriptions.specs.declared.description.Description.the-variants.{Torus, ClosedCylinder}
 use Rattle.ring_writers.specs.ClosedCylinder.{cylinderPart}
 use Rattle.swept_bodies.specs.Polyline3.{ribbonPart, tubeRing}
 use Rattle.swept_bodies.specs.Polyloop3.{torusPart}

@@ -1,4 +1,5 @@
--- What a work does: whether a curve passes it, and whether it writes the vertices. Definitions only.
+-- What a work does: whether a curve passes it, and whether it writes the vertices. Definitions
+-- only.
 use mathlib.Core.Bool.{Bool, true, false}
 use Rattle.bodies.specs.declared.work.Work.{Work}
 use Rattle.bodies.specs.declared.work.Work.the-variants.{CheckFolds, Write, WriteUnlessFolded}

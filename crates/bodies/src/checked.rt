@@ -18,9 +18,9 @@ pub fn is_without_fold(description: Description, curve: &[f32]) -> bool
     do_work(description, curve, Work::CheckFolds, &mut nothing)
 }
 
-// Checks a description and its curve: how many vertices the curve has (10), the divisions (20), the
-// longitudes or layers (21), the sizes (22), that the curve is finite (11), its segments (12) and
-// its folds (13), in this order. It answers the first refusal or the body by its numbers.
+// Checks a description and its curve: how many vertices the curve has (10), the divisions (20),
+// the longitudes or layers (21), the sizes (22), that the curve is finite (11), its segments (12)
+// and its folds (13), in this order. It answers the first refusal or the body by its numbers.
 pub fn check(description: Description, curve: &[f32]) -> Verdict
     ensures { λ r. ⌜ verdictAnswer r ≡ checkedOf description (now (curve .entry)) ⌝ }
 {

@@ -13,8 +13,9 @@ use descriptions::Description;
 pub(crate) fn fill_along(description: Description, curve: &[f32], directions: &mut [f32])
     requires { ⌜ ShapePermitted description (length (now curve) / 3) ⌝ }
     requires { ⌜ segmentCount description (length (now curve) / 3) * 3 ≤ length (now directions) ⌝ }
-    ensures { λ _. let count = segmentCount description (length (now (curve .entry)) / 3) in
-        ⌜ now (directions .exit) ≡ overwrite 0 (directionsOf (curveChain description) count (now (curve .entry))) (now (directions .entry)) ⌝ }
+    ensures { λ _. let c = now (curve .entry) in
+        let table = directionsOf (curveChain description) (segmentCount description (length c / 3)) c in
+        ⌜ now (directions .exit) ≡ overwrite 0 table (now (directions .entry)) ⌝ }
 {
     let count = description.segment_count(curve.len() / 3);
     curve::fill_directions(description.chain(), count, curve, directions);
@@ -24,7 +25,9 @@ pub(crate) fn fill_along(description: Description, curve: &[f32], directions: &m
 // vertices.
 pub(crate) fn has_no_fold(description: Description, vertices: usize, directions: &[f32]) -> bool
     requires { ⌜ ShapePermitted description vertices ⌝ }
-    ensures { λ r. ⌜ r ≡ noFoldIn (curveChain description) (segmentCount description vertices) (cornersOf description vertices) (now (directions .entry)) ⌝ }
+    ensures { λ r. let segments = segmentCount description vertices in
+        let corners = cornersOf description vertices in
+        ⌜ r ≡ noFoldIn (curveChain description) segments corners (now (directions .entry)) ⌝ }
 {
     curve::has_no_fold(
         description.chain(),

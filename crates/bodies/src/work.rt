@@ -42,7 +42,8 @@ fn work_along(
     requires { ⌜ ShapePermitted description (length (now curve) / 3) ⌝ }
     requires { ⌜ segmentCount description (length (now curve) / 3) * 3 ≤ length (now directions) ⌝ }
     requires { ⌜ segmentCount description (length (now curve) / 3) * 3 ≤ length (now ez) ⌝ }
-    requires { ⌜ (writes work true ≡ true → 3 * vertexCount (topologyOf description (length (now curve) / 3)) ≤ length (now out)) ⌝ }
+    requires { let body = topologyOf description (length (now curve) / 3) in
+        ⌜ (writes work true ≡ true → 3 * vertexCount body ≤ length (now out)) ⌝ }
     ensures { λ r. ⌜ r ≡ passes work (curveFoldsPermitted description (now (curve .entry))) ⌝ }
     ensures { λ _. let written = writes work (curveFoldsPermitted description (now (curve .entry))) in
         ⌜ now (out .exit) ≡ placed written (verticesOf description (now (curve .entry))) (now (out .entry)) ⌝ }
@@ -67,7 +68,8 @@ fn work_along(
 // Does the same with tables of its own, short ones for a short curve.
 pub(crate) fn do_work(description: Description, curve: &[f32], work: Work, out: &mut [f32]) -> bool
     requires { ⌜ ShapePermitted description (length (now curve) / 3) ⌝ }
-    requires { ⌜ (writes work true ≡ true → 3 * vertexCount (topologyOf description (length (now curve) / 3)) ≤ length (now out)) ⌝ }
+    requires { let body = topologyOf description (length (now curve) / 3) in
+        ⌜ (writes work true ≡ true → 3 * vertexCount body ≤ length (now out)) ⌝ }
     ensures { λ r. ⌜ r ≡ passes work (curveFoldsPermitted description (now (curve .entry))) ⌝ }
     ensures { λ _. let written = writes work (curveFoldsPermitted description (now (curve .entry))) in
         ⌜ now (out .exit) ≡ placed written (verticesOf description (now (curve .entry))) (now (out .entry)) ⌝ }

@@ -17,7 +17,8 @@ chain-requires c κs = search needs
 
 fill-directions-requires : tie.Need-fill-directions-requires
 fill-directions-requires c κs = let s = c .before .before .before .before .before in
-    subst (λ (k : ℕ). k * 3 ≤ length (now (s .args .directions))) (sym (c .before .before .segment-count .ensures)) (s .pre .1)
+    subst (λ (k : ℕ). k * 3 ≤ length (now (s .args .directions))) (sym (c .before .before .segment-count .ensures))
+    (s .pre .1)
 
 same-length : tie.Need-same-length
 same-length c = search needs
@@ -27,7 +28,9 @@ returns c = let f = c .before .before in
     let chain = f .before .before .chain .ensures in
     let count = f .before .before .before .segment-count .ensures in
     let a = f .before .before .before .before .before .before .args in
-    f .fill-directions .ensures ∙ (λ j. overwrite 0 (directionsOf (chain j) (count j) (now (a .curve))) (now (a .directions)))
+    f .fill-directions .ensures ∙ (λ j. overwrite 0 (directionsOf (chain j) (count j) (now (a .curve)))
+    (now (a .directions)))
 
 pub fill-along-spec : {M : Type 1} → statement M
-fill-along-spec = tie.close (tie.spec segment-count-requires chain-requires fill-directions-requires same-length returns)
+fill-along-spec = tie.close (tie.spec segment-count-requires chain-requires fill-directions-requires same-length
+    returns)

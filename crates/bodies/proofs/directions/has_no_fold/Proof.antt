@@ -26,4 +26,5 @@ returns c = let chain = c .before .before .before .chain .ensures in
     c .has-no-fold .ensures ∙ (λ j. noFoldIn (chain j) (count j) (corners j) table)
 
 pub has-no-fold-spec : {M : Type 1} → statement M
-has-no-fold-spec = tie.close (tie.spec chain-requires segment-count-requires corner-count-requires has-no-fold-requires returns)
+has-no-fold-spec = tie.close (tie.spec chain-requires segment-count-requires corner-count-requires has-no-fold-requires
+    returns)

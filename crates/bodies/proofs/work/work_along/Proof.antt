@@ -32,29 +32,38 @@ unfolded s = curveFoldsPermitted (s .args .description) (now (s .args .curve))
 
 -- the table has the curve's folds, and its directions
 folds : (f : tie.After-fill-along) {r : Bool} → let s = f .before .before .before .before .before .before in
-    r ≡ noFoldIn (curveChain (s .args .description)) (segmentCount (s .args .description) (N s)) (cornersOf (s .args .description) (N s)) (f .fill-along .last .1 .1 .0) → r ≡ unfolded s
+    r ≡ noFoldIn (curveChain (s .args .description)) (segmentCount (s .args .description) (N s))
+    (cornersOf (s .args .description) (N s)) (f .fill-along .last .1 .1 .0) → r ≡ unfolded s
 folds f is = let s = f .before .before .before .before .before .before in
     let d = s .args .description in
-    is ∙ folds-in-table (curveChain d) (segmentCount d (N s)) (now (s .args .curve)) (now (s .args .directions)) (cornersOf d (N s)) (s .pre .1 .0) (f .fill-along .ensures)
+    is ∙ folds-in-table (curveChain d) (segmentCount d (N s)) (now (s .args .curve)) (now (s .args .directions))
+    (cornersOf d (N s)) (s .pre .1 .0) (f .fill-along .ensures)
     (corners-within d (N s) refl refl refl)
 
-table : (f : tie.After-fill-along) → let s = f .before .before .before .before .before .before in CurveDirections (s .args .description) (now (s .args .curve)) (f .fill-along .last .1 .1 .0)
+table : (f : tie.After-fill-along) → let s = f .before .before .before .before .before .before in
+    CurveDirections (s .args .description) (now (s .args .curve)) (f .fill-along .last .1 .1 .0)
 table f = let s = f .before .before .before .before .before .before in
     let d = s .args .description in
-    written-table (curveChain d) (segmentCount d (N s)) (now (s .args .curve)) (now (s .args .directions)) (s .pre .1 .0) (f .fill-along .ensures)
+    written-table (curveChain d) (segmentCount d (N s)) (now (s .args .curve)) (now (s .args .directions))
+    (s .pre .1 .0) (f .fill-along .ensures)
 
 -- a work that writes has room
-room : (s : tie.Start) {w : Work} → s .args .work ≡ w → writes w true ≡ true → 3 * vertexCount (topologyOf (s .args .description) (N s)) ≤ length (now (s .args .out))
+room : (s : tie.Start) {w : Work} → s .args .work ≡ w → writes w true ≡ true
+    → 3 * vertexCount (topologyOf (s .args .description) (N s)) ≤ length (now (s .args .out))
 room s is h = s .pre .1 .1 .1 (ap (λ (w : Work). writes w true) is ∙ h)
 
 -- what is left of `out`, and what is answered, by the work that the match told
 abbrev left : tie.Start → Bool → List Float
 left s written = placed written (verticesOf (s .args .description) (now (s .args .curve))) (now (s .args .out))
 
-told : (s : tie.Start) {w : Work} {r : Bool} {after : List Float} → s .args .work ≡ w → r ≡ passes w (unfolded s) → after ≡ left s (writes w (unfolded s))
+told : (s : tie.Start) {w : Work} {r : Bool} {after : List Float} → s .args .work ≡ w → r ≡ passes w (unfolded s)
+    → after ≡ left s (writes w (unfolded s))
     → (r ≡ passes (s .args .work) (unfolded s)) × (after ≡ left s (writes (s .args .work) (unfolded s)))
-told s is answer written =
-    (answer ∙ ap (λ (w : Work). passes w (unfolded s)) (sym is), written ∙ ap (λ (w : Work). left s (writes w (unfolded s))) (sym is))
+told s is answer written = (
+  answer ∙ ap (λ (w : Work). passes w (unfolded s)) (sym is),
+  written
+      ∙ ap (λ (w : Work). left s (writes w (unfolded s))) (sym is),
+)
 
 fill-along-requires : tie.Need-fill-along-requires
 fill-along-requires c κs = let s = c .before .before .before .before .before in (s .pre .0, s .pre .1 .0)
@@ -63,7 +72,8 @@ enum-told : tie.Need-enum-told
 enum-told c = search needs
 
 has-no-fold-requires : tie.Need-has-no-fold-requires
-has-no-fold-requires c κs = c .before .before .before .before .before .before .before .before .before .before .before .pre .0
+has-no-fold-requires c κs = c .before .before .before .before .before .before .before .before .before .before .before
+    .pre .0
 
 enum-told-2 : tie.Need-enum-told-2
 enum-told-2 c = search needs
@@ -77,10 +87,12 @@ enum-told-3 : tie.Need-enum-told-3
 enum-told-3 c = search needs
 
 has-no-fold-requires-2 : tie.Need-has-no-fold-requires-2
-has-no-fold-requires-2 c κs = c .before .before .before .before .before .before .before .before .before .before .before .pre .0
+has-no-fold-requires-2 c κs = c .before .before .before .before .before .before .before .before .before .before .before
+    .pre .0
 
 -- the answer of the check where the work asks for it
-unfolds : (h : tie.After-has-no-fold2) → h .has-no-fold2 .result ≡ unfolded (h .before .before .before .before .before .before .before .before .before .before .before .before)
+unfolds : (h : tie.After-has-no-fold2) → h .has-no-fold2 .result
+    ≡ unfolded (h .before .before .before .before .before .before .before .before .before .before .before .before)
 unfolds h = folds (h .before .before .before .before .before .before) (h .has-no-fold2 .ensures)
 
 same-length : tie.Need-same-length
@@ -94,14 +106,21 @@ returns c = let h = c .before in
 
 fill-requires-2 : tie.Need-fill-requires-2
 fill-requires-2 c κs = let f = c .before .before .before .before .before .before .before .before .before .before in
-    let s = f .before .before .before .before .before .before in
-    (s .pre .0, (room s (c .before .before .before .before .before .before .enum-told3 .given .1) refl, (table f, s .pre .1 .1 .0)))
+    let s = f .before .before .before .before .before .before in (
+      s .pre .0,
+      (
+        room s (c .before .before .before .before .before .before .enum-told3 .given .1) refl,
+        (table f, s .pre .1 .1 .0),
+      ),
+    )
 
 same-length-2 : tie.Need-same-length-2
 same-length-2 c = search needs
 
 returns-2 : tie.Need-returns-2
-returns-2 c = told (c .before .before .before .before .before .before .before .before .before .before .before .before) (c .before .before .enum-told .given .1) (folds (c .before .before .before .before .before .before) (c .has-no-fold .ensures)) refl
+returns-2 c = told (c .before .before .before .before .before .before .before .before .before .before .before .before)
+    (c .before .before .enum-told .given .1) (folds (c .before .before .before .before .before .before)
+    (c .has-no-fold .ensures)) refl
 
 same-length-3 : tie.Need-same-length-3
 same-length-3 c = search needs
@@ -113,7 +132,9 @@ same-length-5 : tie.Need-same-length-5
 same-length-5 c = search needs
 
 returns-3 : tie.Need-returns-3
-returns-3 c = told (c .before .before .before .before .before .before .before .before .before .before .before .before .before .before .before .before .before .before) (c .before .before .before .before .before .before .before .before .enum-told2 .given .1) refl (c .before .before .before .before .fill .ensures)
+returns-3 c = told (c .before .before .before .before .before .before .before .before .before .before .before .before
+    .before .before .before .before .before .before) (c .before .before .before .before .before .before .before .before
+    .enum-told2 .given .1) refl (c .before .before .before .before .fill .ensures)
 
 same-length-6 : tie.Need-same-length-6
 same-length-6 c = search needs
@@ -129,7 +150,8 @@ returns-4 c = let e = c .before .before .before .before .before .before .before 
     let h = e .before in
     let s = h .before .before .before .before .before .before .before .before .before .before .before .before in
     let answer = sym (not-false (h .has-no-fold2 .result) (e .if1 .left)) ∙ unfolds h in
-    told s (h .before .before .enum-told3 .given .1) answer (c .before .before .before .before .fill2 .ensures ∙ ap (left s) answer)
+    told s (h .before .before .enum-told3 .given .1) answer
+    (c .before .before .before .before .fill2 .ensures ∙ ap (left s) answer)
 
 pub work-along-spec : {M : Type 1} → statement M
 work-along-spec =

@@ -16,8 +16,11 @@ same-length c = search needs
 
 returns : tie.Need-returns
 returns c = let d = c .before .before .do-work in
-    let a = c .before .before .before .before .before .before .args in
-    (d .ensures .0, d .ensures .1 ∙ ap (λ (b : Bool). placed b (verticesOf (a .description) (now (a .curve))) (now (a .out))) (sym (d .ensures .0)))
+    let a = c .before .before .before .before .before .before .args in (
+      d .ensures .0,
+      d .ensures .1 ∙ ap (λ (b : Bool). placed b (verticesOf (a .description) (now (a .curve)))
+          (now (a .out))) (sym (d .ensures .0)),
+    )
 
 pub write-unless-folded-spec : {M : Type 1} → statement M
 write-unless-folded-spec = tie.close (tie.spec do-work-requires same-length returns)
