@@ -21,6 +21,8 @@ pub sum-within : (f : ℕ → ℕ) (i n : ℕ) → i < n → sumBelow i f + f i 
 sum-within f i zero h = absurd (not-suc-le-zero h)
 sum-within f i (suc n) h =
     ⊎-elim
-    (λ last. let e : sumBelow i f + f i ≡ sumBelow n f + f n = λ j. sumBelow (last j) f + f (last j) in omega (arith, e))
+    (λ last.
+    let e : sumBelow i f + f i ≡ sumBelow n f + f n = λ j. sumBelow (last j) f + f (last j) in
+    omega (arith, e))
     (λ lower. omega (arith, sum-within f i n lower))
     (eq-or-lt-of-le (le-of-suc-le-suc h))

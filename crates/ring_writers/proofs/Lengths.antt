@@ -25,15 +25,24 @@ pub length-ring : (vertex : Direction → Point) (n : ℕ) → length (ringOf ve
 length-ring vertex n = length-blocks 3 n (λ i. coordinates (vertex (turnOf i n))) (λ i h. refl)
 
 -- rings one after the other
-pub length-rings : (vertex : ℕ → Direction → Point) (k n : ℕ) → length (blocks k (λ g. ringOf (vertex g) n)) ≡ k * (n * 3)
+pub length-rings : (vertex : ℕ → Direction → Point) (k n : ℕ)
+    → length (blocks k (λ g. ringOf (vertex g) n)) ≡ k * (n * 3)
 length-rings vertex k n = length-blocks (n * 3) k (λ g. ringOf (vertex g) n) (λ g h. length-ring (vertex g) n)
 
 pub length-cap : (end : End) (a : Axes) (r : Float) (L n : ℕ) → length (capRings end a r L n) ≡ L * (n * 3)
 length-cap end a r L n = length-rings (capVertex end a r L) L n
 
 pub length-end : (end : End) (a : Axes) (r : Float) (L n : ℕ) → length (endVertices end a r L n) ≡ 3 + L * (n * 3)
-length-end Bottom a r L n = omega (arith, length-append (coordinates (bottomPole a r)) (capRings Bottom a r L n), length-cap Bottom a r L n)
-length-end Top a r L n = omega (arith, length-append (capRings Top a r L n) (coordinates (topPole a r)), length-cap Top a r L n)
+length-end Bottom a r L n = omega (
+  arith,
+  length-append (coordinates (bottomPole a r)) (capRings Bottom a r L n),
+  length-cap Bottom a r L n,
+)
+length-end Top a r L n = omega (
+  arith,
+  length-append (capRings Top a r L n) (coordinates (topPole a r)),
+  length-cap Top a r L n,
+)
 
 -- blocks of which the first has a list before it and the last one a list after it
 module _ (f : ℕ → List Float) (first last : List Float) where
@@ -41,14 +50,16 @@ module _ (f : ℕ → List Float) (first last : List Float) where
   framed S g = cond (eqb g 0) first [] ++ (f g ++ cond (eqb g S) last [])
 
   framed-within : (S k : ℕ) → k < S - 1 → framed S (k + 1) ≡ f (k + 1)
-  framed-within S k h = rw (ne-eqb (k + 1) 0 (λ e. omega arith), ne-eqb (k + 1) S (λ e. omega arith)) (append-nil (f (k + 1)))
+  framed-within S k h = rw (ne-eqb (k + 1) 0 (λ e. omega arith), ne-eqb (k + 1) S (λ e. omega arith))
+      (append-nil (f (k + 1)))
 
   pub blocks-framed : (S : ℕ) → blocks (S + 1) (framed S) ≡ first ++ (blocks (S + 1) f ++ last)
   blocks-framed zero = refl
   blocks-framed (suc S) =
       let m = suc S in
       let inner = blocks (m - 1) (λ k. f (k + 1)) in
-      let bottom : framed m 0 ≡ first ++ f 0 = rw (ne-eqb 0 m (λ e. omega arith)) (ap (λ (l : List Float). first ++ l) (append-nil (f 0))) in
+      let bottom : framed m 0 ≡ first ++ f 0 = rw (ne-eqb 0 m (λ e. omega arith))
+      (ap (λ (l : List Float). first ++ l) (append-nil (f 0))) in
       let top : framed m m ≡ f m ++ last = rw (ne-eqb m 0 (λ e. omega arith), eq-eqb m m refl) in
       blocks-ends m (framed m) (omega arith)
       ∙ (λ i. bottom i ++ (blocks-cong (m - 1) (λ k. framed m (k + 1)) (λ k. f (k + 1)) (framed-within m) i ++ top i))
@@ -60,12 +71,14 @@ module _ (f : ℕ → List Float) (first last : List Float) where
 
 -- the closed cylinder: pole, rings, pole
 pub cylinder-parts : (r l : Float) (n S : ℕ) (centred : Bool) → let low = lowOf centred l in
-    cylinderVertices r l n S centred ≡ coordinates (pole low) ++ (cylinderRings r low l S n ++ coordinates (pole (plus low l)))
+    cylinderVertices r l n S centred ≡ coordinates (pole low)
+    ++ (cylinderRings r low l S n ++ coordinates (pole (plus low l)))
 cylinder-parts r l n S centred =
     let low = lowOf centred l in
     blocks-framed (cylinderRing r low l S n) (coordinates (pole low)) (coordinates (pole (plus low l))) S
 
-pub length-cylinder : (r l : Float) (n S : ℕ) (centred : Bool) → length (cylinderVertices r l n S centred) ≡ (S + 1) * (n * 3) + 6
+pub length-cylinder : (r l : Float) (n S : ℕ) (centred : Bool)
+    → length (cylinderVertices r l n S centred) ≡ (S + 1) * (n * 3) + 6
 length-cylinder r l n S centred =
     ap length (cylinder-parts r l n S centred)
     ∙ simp length-append (omega (arith, length-rings (levelVertex r (lowOf centred l) l S) (S + 1) n))

@@ -30,7 +30,8 @@ module _ (at n : ℕ) (point : ℕ → Point) (t₀ : List Float) where
       ∙ getD-within at points t₀ (k * 3 + j) nan (omega (arith, sized)) (omega arith)
       ∙ getD-blocks 3 n (λ k. coordinates (point k)) k j (k * 3 + j) nan (λ k. refl) h l refl
 
-  pub table-point : (k : ℕ) {q : ℕ} → at + n * 3 ≤ length t₀ → k < n → q ≡ at + k * 3 → pointAt (overwrite at points t₀) q ≡ point k
+  pub table-point : (k : ℕ) {q : ℕ} → at + n * 3 ≤ length t₀ → k < n → q ≡ at + k * 3
+      → pointAt (overwrite at points t₀) q ≡ point k
   table-point k {q} room h is = λ i. record {
     x = coordinate k 0 {q = q} room h (omega arith) (omega arith) i;
     y = coordinate k 1 {q = q + 1} room h (omega arith) (omega arith) i;
@@ -39,7 +40,8 @@ module _ (at n : ℕ) (point : ℕ → Point) (t₀ : List Float) where
 
 module _ (n : ℕ) {table : List Float} (turns : Turns n table) where
   -- direction i, read at its place
-  pub direction-at : (i : ℕ) {k : ℕ} → i < n → k ≡ i * 3 → pair (getD table k nan) (getD table (768 + k) nan) ≡ turnOf i n
+  pub direction-at : (i : ℕ) {k : ℕ} → i < n → k ≡ i * 3
+      → pair (getD table k nan) (getD table (768 + k) nan) ≡ turnOf i n
   unfolding thrice
   direction-at i h is =
       λ j. pair ((ap (λ (k : ℕ). getD table k nan) is ∙ ap (λ (p : Point). p .x) (turns .cosine i h)) j)
@@ -50,7 +52,8 @@ module _ (ring : Ring) (n : ℕ) {table : List Float} (turns : Turns n table) wh
   pub vertex-at : (i : ℕ) {k k′ : ℕ} → i < n → k ≡ i * 3 → k′ ≡ 768 + i * 3
       → inOrder (ring .order) ring (pointAt table k) (pointAt table k′) ≡ ringVertex ring (turnOf i n)
   vertex-at i h is is′ =
-      λ j. inOrder (ring .order) ring ((ap (pointAt table) is ∙ turns .cosine i h) j) ((ap (pointAt table) is′ ∙ turns .sine i h) j)
+      λ j. inOrder (ring .order) ring ((ap (pointAt table) is ∙ turns .cosine i h) j)
+      ((ap (pointAt table) is′ ∙ turns .sine i h) j)
 
   -- and of four directions from i on
   pub four-vertices : (i : ℕ) {k : ℕ} → i + 4 ≤ n → k ≡ i * 3

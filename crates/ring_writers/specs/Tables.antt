@@ -21,7 +21,13 @@ pub record Turns (n : ℕ) (table : List Float) : Type 0 where
 -- four points, read and written
 abbrev pub fourIn : List Float → ℕ → Four
 fourIn table p =
-    record { first = pointAt table p; second = pointAt table (p + 3); third = pointAt table (p + 6); fourth = pointAt table (p + 9) }
+    record {
+      first = pointAt table p;
+      second = pointAt table (p + 3);
+      third = pointAt table (p + 6);
+      fourth = pointAt table (p + 9);
+    }
 
 abbrev pub fourCoordinates : Four → List Float
-fourCoordinates q = ((coordinates (q .first) ++ coordinates (q .second)) ++ coordinates (q .third)) ++ coordinates (q .fourth)
+fourCoordinates q =
+    ((coordinates (q .first) ++ coordinates (q .second)) ++ coordinates (q .third)) ++ coordinates (q .fourth)

@@ -38,8 +38,8 @@ fn write_fours(out: &mut [f32], at: usize, ring: Ring, n: usize, turns: &[f32]) 
 // Writes the vertices `from` to n − 1 of a ring of `n` that begins at index `at`.
 fn write_rest(out: &mut [f32], at: usize, ring: Ring, from: usize, n: usize, turns: &[f32])
     requires { ⌜ (from ≤ n) × (at + n * 3 ≤ length (now out)) × Turns n (now turns) ⌝ }
-    ensures { λ _. ⌜ now (out .exit)
-        ≡ overwrite (at + from * 3) (blocks (n - from) (λ j. vertexOn (ringVertex ring) n (from + j))) (now (out .entry)) ⌝ }
+    ensures { λ _. let rest = blocks (n - from) (λ j. vertexOn (ringVertex ring) n (from + j)) in
+        ⌜ now (out .exit) ≡ overwrite (at + from * 3) rest (now (out .entry)) ⌝ }
 {
     let mut k = from * 3;
     let mut i = from;

@@ -52,7 +52,8 @@ pub fn cylinder_closed_end_yup(
     centred: bool,
 )
     requires { ⌜ (n ≤ 256) × (layers ≤ 4096) × ((layers + 1) * (n * 3) + 6 ≤ length (now out)) ⌝ }
-    ensures { λ _. ⌜ now (out .exit) ≡ overwrite 0 (cylinderVertices radius height n layers centred) (now (out .entry)) ⌝ }
+    ensures { λ _. ⌜ now (out .exit)
+        ≡ overwrite 0 (cylinderVertices radius height n layers centred) (now (out .entry)) ⌝ }
 {
     let mut turns = [0.0f32; TURN_FLOATS];
     fill_turns(n, &mut turns);

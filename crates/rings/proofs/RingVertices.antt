@@ -30,4 +30,5 @@ cap-vertices Top a r L j = refl
 pub cap-ring : (end : End) (a : Axes) (r : Float) (L j n : ℕ) {k : Ring} → k ≡ capRing end a r L j
     → ringOf (ringVertex k) n ≡ ringOf (capVertex end a r L j) n
 cap-ring end a r L j n is =
-    ap (λ (k : Ring). ringOf (ringVertex k) n) is ∙ ap (λ (v : Direction → Point). ringOf v n) (cap-vertices end a r L j)
+    ap (λ (k : Ring). ringOf (ringVertex k) n) is ∙ ap (λ (v : Direction → Point). ringOf v n)
+    (cap-vertices end a r L j)

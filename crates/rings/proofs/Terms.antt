@@ -9,5 +9,6 @@ pub one-term : (axis x : Point) (k : Float) {r p q : Point} → r ≡ thrice k �
     → q ≡ productOf axis (productOf (thrice k) x)
 one-term axis x k radius inner outer = outer ∙ (λ i. productOf axis ((inner ∙ (λ j. productOf (radius j) x)) i))
 
-pub both-terms : (p : Point) {a b a′ b′ s r : Point} → a ≡ a′ → s ≡ sumOf p a → b ≡ b′ → r ≡ sumOf s b → r ≡ sumOf (sumOf p a′) b′
+pub both-terms : (p : Point) {a b a′ b′ s r : Point} → a ≡ a′ → s ≡ sumOf p a → b ≡ b′ → r ≡ sumOf s b
+    → r ≡ sumOf (sumOf p a′) b′
 both-terms p one first other second = second ∙ (λ i. sumOf ((first ∙ (λ j. sumOf p (one j))) i) (other i))

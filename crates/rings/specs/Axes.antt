@@ -8,7 +8,7 @@ use Rattle.rings.specs.declared.axes.Axes.{Axes}
 unfoldable pub axesAt : Point → Frame → Point → Axes
 axesAt p frame ez = record { origin = p; ex = frame .ex; ey = crossOf ez (frame .ex); ez = ez }
 
--- ez at a vertex of an open curve between segments along u and w: "inside the normalised sum of the
--- two normalised segments"
+-- ez at a vertex of an open curve between segments along u and w: "inside the normalised sum of
+-- the two normalised segments"
 unfoldable pub betweenOf : Point → Point → Point
 betweenOf u w = normalised (sumOf u w)

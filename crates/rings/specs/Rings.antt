@@ -17,8 +17,8 @@ use Rattle.rings.specs.declared.four.Four.{Four}
 unfoldable pub ringAround : Order → Axes → Point → Float → Ring
 ringAround order a centre r = record { order = order; centre = centre; ex = a .ex; ey = a .ey; radius = r }
 
--- The vertex of a ring in a direction whose cosine and sine are handed over three times each, as the
--- tables hold them: component by component the products are those of the formulas.
+-- The vertex of a ring in a direction whose cosine and sine are handed over three times each, as
+-- the tables hold them: component by component the products are those of the formulas.
 
 -- two terms added to the centre, one after the other: an axis by the radius by a cosine or a sine
 unfoldable pub twoTerms : Ring → Point → Point → Point → Point → Point
@@ -50,7 +50,8 @@ fourOf vertex cos sin = record {
 abbrev pub ringAt : Order → Axes → Float → Ring
 ringAt order a r = ringAround order a (a .origin) r
 
--- a ring of a cap: its centre on the axis, its radius c0; L − 1 − j is 0 if a bottom cap has no ring j
+-- a ring of a cap: its centre on the axis, its radius c0; L − 1 − j is 0 if a bottom cap has no
+-- ring j
 abbrev pub capRing : End → Axes → Float → ℕ → ℕ → Ring
 capRing Bottom a r L j =
     let t = turnOf (L - 1 - j) (4 * L) in

@@ -1,6 +1,6 @@
--- The vertices of each kind (document 01, 'Frames and vertices'): of a swept one from the axes at its
--- ring, whose origin is p, of a closed cylinder from its sizes. d = (C, Sn) is the direction of the
--- vertex's place on its ring. Definitions only.
+-- The vertices of each kind (document 01, 'Frames and vertices'): of a swept one from the axes at
+-- its ring, whose origin is p, of a closed cylinder from its sizes. d = (C, Sn) is the direction
+-- of the vertex's place on its ring. Definitions only.
 use mathlib.Core.List.{List}
 use Prim.Native.Nat.{ℕ, _-_, _*_}
 use lib.Ieee.{Float, binary32, ofBits, neg}
@@ -35,13 +35,15 @@ topPole a r = sumOf (a .origin) (scaled (a .ez) r)
 unfoldable pub bottomVertex : Axes → Float → Direction → Direction → Point
 bottomVertex a r t d =
     let c0 = times r (t .cos) in
-    sumOf (sumOf (sumOf (a .origin) (scaled (a .ez) (times (neg r) (t .sin)))) (scaled (a .ey) (times c0 (d .cos)))) (scaled (a .ex) (times c0 (d .sin)))
+    let centre = sumOf (a .origin) (scaled (a .ez) (times (neg r) (t .sin))) in
+    sumOf (sumOf centre (scaled (a .ey) (times c0 (d .cos)))) (scaled (a .ex) (times c0 (d .sin)))
 
 -- "Top rings: .. ((p + ez·(r·t.sin)) + ex·(c0·Sn)) + ey·(c0·C)."
 unfoldable pub topVertex : Axes → Float → Direction → Direction → Point
 topVertex a r t d =
     let c0 = times r (t .cos) in
-    sumOf (sumOf (sumOf (a .origin) (scaled (a .ez) (times r (t .sin)))) (scaled (a .ex) (times c0 (d .sin)))) (scaled (a .ey) (times c0 (d .cos)))
+    let centre = sumOf (a .origin) (scaled (a .ez) (times r (t .sin))) in
+    sumOf (sumOf centre (scaled (a .ex) (times c0 (d .sin)))) (scaled (a .ey) (times c0 (d .cos)))
 
 -- "Bottom rings j below L: t = turn(L − 1 − j, 4L)", "Top rings: t = turn(j, 4L)"
 abbrev pub capVertex : End → Axes → Float → ℕ → ℕ → Direction → Point

@@ -22,7 +22,8 @@ use Rattle.swept_bodies.specs.Polyline3.{vtx2framex, framez, vtx2framey,
 use Rattle.swept_bodies.specs.Polyloop3 as polyloop3
 
 -- what is carried by the table is what is carried along the curve
-carried-in : (chain : Chain) (m : ℕ) (c : List Float) {directions : List Float} → DirectionTable chain m c directions → (g : ℕ) → g < m
+carried-in : (chain : Chain) (m : ℕ) (c : List Float) {directions : List Float} → DirectionTable chain m c directions
+    → (g : ℕ) → g < m
     → carriedIn directions g ≡ carriedOf chain m c g
 carried-in chain m c table zero h = ap carriedOn (table .direction 0 h) ∙ carried-first chain m c
 carried-in chain m c table (suc g) h =
@@ -32,22 +33,27 @@ carried-in chain m c table (suc g) h =
 
 -- a step of what is carried, as a loop makes it
 pub carried-on : (directions : List Float) (g : ℕ) {b b′ : Carried} {w : Point}
-    → 1 ≤ g → b ≡ carriedIn directions (g - 1) → w ≡ pointAt directions (g * 3) → b′ ≡ carriedTo b w → b′ ≡ carriedIn directions g
+    → 1 ≤ g → b ≡ carriedIn directions (g - 1) → w ≡ pointAt directions (g * 3) → b′ ≡ carriedTo b w
+    → b′ ≡ carriedIn directions g
 carried-on directions g l before along made =
     let e : suc (g - 1) ≡ g = omega arith in
-    made ∙ (λ i. carriedTo (before i) ((along ∙ ap (λ (k : ℕ). pointAt directions (k * 3)) (sym e)) i)) ∙ ap (carriedIn directions) e
+    made ∙ (λ i. carriedTo (before i) ((along ∙ ap (λ (k : ℕ). pointAt directions (k * 3)) (sym e)) i))
+    ∙ ap (carriedIn directions) e
 
 -- the frame and the axes on an open curve: at its first vertex, between two segments, at its last
-module _ (m : ℕ) (c : List Float) {directions : List Float} (table : DirectionTable Open m c directions) (h : 1 ≤ m) where
+module _ (m : ℕ) (c : List Float) {directions : List Float} (table : DirectionTable Open m c directions)
+    (h : 1 ≤ m) where
   pub frame-within : (g : ℕ) → g < m → carriedIn directions g .frame ≡ vtx2framex m c g
   unfolding carriedOf vtx2framex
-  frame-within g l = rw (ne-eqb g m (λ e. omega arith)) (ap (λ (b : Carried). b .frame) (carried-in Open m c table g l))
+  frame-within g l = rw (ne-eqb g m (λ e. omega arith))
+      (ap (λ (b : Carried). b .frame) (carried-in Open m c table g l))
 
   pub frame-last : carriedIn directions (m - 1) .frame ≡ vtx2framex m c m
   unfolding carriedOf vtx2framex
   frame-last = rw (eq-eqb m m refl) (ap (λ (b : Carried). b .frame) (carried-in Open m c table (m - 1) (omega arith)))
 
-  pub axes-first : axesAt (vertexOf c 0) (carriedIn directions 0 .frame) (carriedIn directions 0 .direction) ≡ axesOf m c 0
+  pub axes-first : axesAt (vertexOf c 0) (carriedIn directions 0 .frame) (carriedIn directions 0 .direction)
+      ≡ axesOf m c 0
   unfolding carriedOf axesAt axesOf vtx2framey framez
   axes-first =
       let ez = ap (λ (b : Carried). b .direction) (carried-in Open m c table 0 h) in
@@ -61,24 +67,29 @@ module _ (m : ℕ) (c : List Float) {directions : List Float} (table : Direction
 
   ez-last : carriedIn directions (m - 1) .direction ≡ framez m c m
   unfolding carriedOf framez
-  ez-last = rw (ne-eqb m 0 (λ e. omega arith), eq-eqb m m refl) (ap (λ (b : Carried). b .direction) (carried-in Open m c table (m - 1) (omega arith)))
+  ez-last = rw (ne-eqb m 0 (λ e. omega arith), eq-eqb m m refl)
+      (ap (λ (b : Carried). b .direction) (carried-in Open m c table (m - 1) (omega arith)))
 
-  pub axes-inner : {ez : List Float} → EzTable m directions ez → (g : ℕ) → 1 ≤ g → g < m → axesIn c directions ez g ≡ axesOf m c g
+  pub axes-inner : {ez : List Float} → EzTable m directions ez → (g : ℕ) → 1 ≤ g → g < m
+      → axesIn c directions ez g ≡ axesOf m c g
   unfolding axesAt axesOf vtx2framey
   axes-inner between g l u = λ i. axesAt (vertexOf c g) (frame-within g u i) (ez-inner between g l u i)
 
-  pub axes-last : axesAt (vertexOf c m) (carriedIn directions (m - 1) .frame) (carriedIn directions (m - 1) .direction) ≡ axesOf m c m
+  pub axes-last : axesAt (vertexOf c m) (carriedIn directions (m - 1) .frame) (carriedIn directions (m - 1) .direction)
+      ≡ axesOf m c m
   unfolding axesAt axesOf vtx2framey
   axes-last = λ i. axesAt (vertexOf c m) (frame-last i) (ez-last i)
 
 -- the axes on a closed curve, whose table of directions is also that of ez; at its first vertex, as
 -- the calls make them
 module _ (N : ℕ) (c : List Float) {directions : List Float} (table : DirectionTable Closed N c directions) where
-  pub axes-on-loop : (g : ℕ) → g < N → axesIn c directions directions g ≡ polyloop3.axesOf N c (polyloop3.vtx2framex N c g) g
+  pub axes-on-loop : (g : ℕ) → g < N → axesIn c directions directions g
+      ≡ polyloop3.axesOf N c (polyloop3.vtx2framex N c g) g
   unfolding carriedOf polyloop3.axesOf polyloop3.vtx2framex
   axes-on-loop g h = λ i. axesAt (vertexOf c g) (carried-in Closed N c table g h i .frame) (table .direction g h i)
 
   pub axes-loop-first : 1 ≤ N
-      → axesAt (vertexOf c 0) (carriedIn directions 0 .frame) (carriedIn directions 0 .direction) ≡ polyloop3.axesOf N c (polyloop3.vtx2framex N c 0) 0
+      → axesAt (vertexOf c 0) (carriedIn directions 0 .frame) (carriedIn directions 0 .direction)
+      ≡ polyloop3.axesOf N c (polyloop3.vtx2framex N c 0) 0
   unfolding carriedOn
   axes-loop-first h = axes-on-loop 0 h

@@ -20,7 +20,8 @@ length-ribbon width m c = length-blocks 6 (m + 1) (ribbonPart width m c) (λ g h
 pub length-tube : (n : ℕ) (r : Float) (m : ℕ) (c : List Float) → length (tubeVertices n r m c) ≡ (m + 1) * (n * 3)
 length-tube n r m c = length-rings (λ g. tubeVertex (axesOf m c g) r) (m + 1) n
 
-pub length-capsule : (n L : ℕ) (r : Float) (m : ℕ) (c : List Float) → 1 ≤ m → length (capsuleVertices n L r m c) ≡ (2 * L + m - 1) * (n * 3) + 6
+pub length-capsule : (n L : ℕ) (r : Float) (m : ℕ) (c : List Float) → 1 ≤ m
+    → length (capsuleVertices n L r m c) ≡ (2 * L + m - 1) * (n * 3) + 6
 length-capsule n L r m c h =
     let e : 2 * L + m - 1 ≡ L + (m - 1) + L = omega arith in
     ap length (capsule-parts n L r m c h)
@@ -31,5 +32,6 @@ length-capsule n L r m c h =
       length-cap Top (axesOf m c m) r L n,
     )))
 
-pub length-torus : (n : ℕ) (r : Float) (N : ℕ) (c : List Float) → length (polyloop3.torusVertices n r N c) ≡ N * (n * 3)
+pub length-torus : (n : ℕ) (r : Float) (N : ℕ) (c : List Float)
+    → length (polyloop3.torusVertices n r N c) ≡ N * (n * 3)
 length-torus n r N c = length-rings (λ g. torusVertex (polyloop3.axesOf N c (polyloop3.vtx2framex N c g) g) r) N n

@@ -17,5 +17,6 @@ pub written-table : (chain : Chain) (count : ℕ) (c t₀ : List Float) {t : Lis
 written-table chain count c t₀ h whole =
     record {
       room = omega (arith, ap length whole, length-overwrite 0 (directionsOf chain count c) t₀);
-      direction = λ k l. ap (λ (t : List Float). pointAt t (k * 3)) whole ∙ table-direction-at chain count c t₀ k h l (omega arith);
+      direction = λ k l. ap (λ (t : List Float). pointAt t (k * 3)) whole
+          ∙ table-direction-at chain count c t₀ k h l (omega arith);
     }

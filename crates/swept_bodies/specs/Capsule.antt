@@ -14,7 +14,8 @@ use Rattle.swept_bodies.specs.Polyline3.{axesOf, tubeRing}
 -- rings .. Top pole".
 abbrev pub capsulePart : ℕ → ℕ → Float → ℕ → List Float → ℕ → List Float
 capsulePart n L r m c g =
-    cond (eqb g 0) (endVertices Bottom (axesOf m c g) r L n) (cond (eqb g m) (endVertices Top (axesOf m c g) r L n) (tubeRing n r m c g))
+    cond (eqb g 0) (endVertices Bottom (axesOf m c g) r L n)
+    (cond (eqb g m) (endVertices Top (axesOf m c g) r L n) (tubeRing n r m c g))
 
 abbrev pub capsuleVertices : ℕ → ℕ → Float → ℕ → List Float → List Float
 capsuleVertices n L r m c = blocks (m + 1) (capsulePart n L r m c)

@@ -25,7 +25,8 @@ vtx2framex m c g = cond (eqb g m) (frameOf Open m c (m - 1)) (frameOf Open m c g
 unfoldable pub framez : ℕ → List Float → ℕ → Point
 framez m c g =
     cond (eqb g 0) (segmentDirection Open m c 0)
-    (cond (eqb g m) (segmentDirection Open m c (m - 1)) (normalised (sumOf (segmentDirection Open m c (g - 1)) (segmentDirection Open m c g))))
+    (cond (eqb g m) (segmentDirection Open m c (m - 1))
+    (normalised (sumOf (segmentDirection Open m c (g - 1)) (segmentDirection Open m c g))))
 
 -- "ex is the frame", "ey = cross(ez, ex)"
 unfoldable pub vtx2framey : ℕ → List Float → ℕ → Point

@@ -1,5 +1,5 @@
--- What the writers of tube, capsule and torus share: the rings at the vertices between two segments
--- (document 01, 'Frames and vertices'), by the tables of a curve. Definitions only.
+-- What the writers of tube, capsule and torus share: the rings at the vertices between two
+-- segments (document 01, 'Frames and vertices'), by the tables of a curve. Definitions only.
 use mathlib.Core.Path.{_≡_}
 use mathlib.Core.List.{List}
 use Prim.Native.Nat.{ℕ, _+_, _-_, _*_, _≤_}
@@ -22,13 +22,14 @@ axesIn c directions ez g = axesAt (vertexOf c g) (carriedIn directions g .frame)
 
 -- the ring there, and those at vertices 1 to segments − 1
 abbrev pub ringIn : Sweep → List Float → List Float → List Float → ℕ → List Float
-ringIn s c directions ez g = ringOf (ringVertex (ringAt (s .order) (axesIn c directions ez g) (s .radius))) (s .divisions)
+ringIn s c directions ez g =
+    ringOf (ringVertex (ringAt (s .order) (axesIn c directions ez g) (s .radius))) (s .divisions)
 
 abbrev pub innerRings : Sweep → List Float → List Float → List Float → List Float
 innerRings s c directions ez = blocks (s .segments - 1) (λ k. ringIn s c directions ez (k + 1))
 
--- What the writers along a curve ask of its tables: the order of document 01's tube and capsule, or
--- of its torus, a segment at least, and the tables filled.
+-- What the writers along a curve ask of its tables: the order of document 01's tube and capsule,
+-- or of its torus, a segment at least, and the tables filled.
 pub record OpenSweep (s : Sweep) (c directions ez turns : List Float) : Type 0 where
   pub order : s .order ≡ EyFirst
   pub segment : 1 ≤ s .segments

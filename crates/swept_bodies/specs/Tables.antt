@@ -1,6 +1,6 @@
--- The tables that the writers along one curve share: the directions of its segments, what is carried
--- along them, and ez at its vertices. A table has its points one after the other, three floats each.
--- Definitions only.
+-- The tables that the writers along one curve share: the directions of its segments, what is
+-- carried along them, and ez at its vertices. A table has its points one after the other, three
+-- floats each. Definitions only.
 use mathlib.Core.Path.{_≡_}
 use mathlib.Core.List.{List}
 use Prim.Native.Nat.{ℕ, zero, suc, _-_, _*_, _≤_, _<_}
@@ -33,7 +33,8 @@ pub record ClosedCurve (c directions : List Float) : Type 0 where
 -- ez at the vertices of an open curve between two segments, by the table of its directions
 pub record EzTable (count : ℕ) (directions table : List Float) : Type 0 where
   pub room : count * 3 ≤ length table
-  pub between : (g : ℕ) → 1 ≤ g → g < count → pointAt table (g * 3) ≡ betweenOf (pointAt directions ((g - 1) * 3)) (pointAt directions (g * 3))
+  pub between : (g : ℕ) → 1 ≤ g → g < count
+      → pointAt table (g * 3) ≡ betweenOf (pointAt directions ((g - 1) * 3)) (pointAt directions (g * 3))
 
 -- What is carried to segment g, by the table of directions: from each segment to the next.
 abbrev pub carriedIn : List Float → ℕ → Carried

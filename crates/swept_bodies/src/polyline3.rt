@@ -35,7 +35,8 @@ pub fn set_vtx2xyz_for_generalized_cylinder_open_end(
 )
     requires { ⌜ OpenCurve (now curve) (now directions) × ((verticesIn (now curve) - 1) * 3 ≤ length (now ez)) ⌝ }
     requires { ⌜ (n ≤ 256) × ((verticesIn (now curve) - 1 + 1) * (n * 3) ≤ length (now out)) ⌝ }
-    ensures { λ _. ⌜ now (out .exit) ≡ overwrite 0 (tubeVertices n r (verticesIn (now (curve .entry)) - 1) (now (curve .entry))) (now (out .entry)) ⌝ }
+    ensures { λ _. let c = now (curve .entry) in
+        ⌜ now (out .exit) ≡ overwrite 0 (tubeVertices n r (verticesIn c - 1) c) (now (out .entry)) ⌝ }
 {
     let mut turns = [0.0f32; TURN_FLOATS];
     fill_turns(n, &mut turns);
@@ -61,7 +62,8 @@ fn write_tube(
 )
     requires { ⌜ OpenSweep sweep (now curve) (now directions) (now ez) (now turns) ⌝ }
     requires { ⌜ (sweep .segments + 1) * (sweep .divisions * 3) ≤ length (now out) ⌝ }
-    ensures { λ _. ⌜ now (out .exit) ≡ overwrite 0 (tubeVertices (sweep .divisions) (sweep .radius) (sweep .segments) (now (curve .entry))) (now (out .entry)) ⌝ }
+    ensures { λ _. let tube = tubeVertices (sweep .divisions) (sweep .radius) (sweep .segments) (now (curve .entry)) in
+        ⌜ now (out .exit) ≡ overwrite 0 tube (now (out .entry)) ⌝ }
 {
     let order = sweep.order;
     let m = sweep.segments as usize;
@@ -89,7 +91,8 @@ pub fn to_trimesh3_capsule(
 )
     requires { ⌜ OpenCurve (now curve) (now directions) × ((verticesIn (now curve) - 1) * 3 ≤ length (now ez)) ⌝ }
     requires { ⌜ CapsuleFits (verticesIn (now curve) - 1) n longitudes (length (now out)) ⌝ }
-    ensures { λ _. ⌜ now (out .exit) ≡ overwrite 0 (capsuleVertices n longitudes r (verticesIn (now (curve .entry)) - 1) (now (curve .entry))) (now (out .entry)) ⌝ }
+    ensures { λ _. let c = now (curve .entry) in
+        ⌜ now (out .exit) ≡ overwrite 0 (capsuleVertices n longitudes r (verticesIn c - 1) c) (now (out .entry)) ⌝ }
 {
     let mut turns = [0.0f32; TURN_FLOATS];
     fill_turns(n, &mut turns);
@@ -117,8 +120,9 @@ fn write_capsule(
 )
     requires { ⌜ OpenSweep sweep (now curve) (now directions) (now ez) (now turns) ⌝ }
     requires { ⌜ CapsuleFits (sweep .segments) (sweep .divisions) longitudes (length (now out)) ⌝ }
-    ensures { λ _. ⌜ now (out .exit)
-        ≡ overwrite 0 (capsuleVertices (sweep .divisions) longitudes (sweep .radius) (sweep .segments) (now (curve .entry))) (now (out .entry)) ⌝ }
+    ensures { λ _. let c = now (curve .entry) in
+        let capsule = capsuleVertices (sweep .divisions) longitudes (sweep .radius) (sweep .segments) c in
+        ⌜ now (out .exit) ≡ overwrite 0 capsule (now (out .entry)) ⌝ }
 {
     let m = sweep.segments as usize;
     let n = sweep.divisions;
@@ -147,7 +151,8 @@ fn put_pair(out: &mut [f32], at: usize, p: Point, frame: Frame, width: f32)
 // Writes the vertices of a ribbon to the front of `out`.
 pub fn to_trimesh3_ribbon(out: &mut [f32], curve: &[f32], directions: &[f32], width: f32)
     requires { ⌜ OpenCurve (now curve) (now directions) × ((verticesIn (now curve) - 1 + 1) * 6 ≤ length (now out)) ⌝ }
-    ensures { λ _. ⌜ now (out .exit) ≡ overwrite 0 (ribbonVertices width (verticesIn (now (curve .entry)) - 1) (now (curve .entry))) (now (out .entry)) ⌝ }
+    ensures { λ _. let c = now (curve .entry) in
+        ⌜ now (out .exit) ≡ overwrite 0 (ribbonVertices width (verticesIn c - 1) c) (now (out .entry)) ⌝ }
 {
     let m = curve.len() / 3 - 1;
     let mut carried = Carried::first(point(directions, 0));

@@ -21,7 +21,8 @@ use rings::Ring;
 pub fn to_trimesh3_torus(out: &mut [f32], curve: &[f32], directions: &[f32], n: u16, r: f32)
     requires { ⌜ ClosedCurve (now curve) (now directions) ⌝ }
     requires { ⌜ (n ≤ 256) × (verticesIn (now curve) * (n * 3) ≤ length (now out)) ⌝ }
-    ensures { λ _. ⌜ now (out .exit) ≡ overwrite 0 (torusVertices n r (verticesIn (now (curve .entry))) (now (curve .entry))) (now (out .entry)) ⌝ }
+    ensures { λ _. let c = now (curve .entry) in
+        ⌜ now (out .exit) ≡ overwrite 0 (torusVertices n r (verticesIn c) c) (now (out .entry)) ⌝ }
 {
     let mut turns = [0.0f32; TURN_FLOATS];
     fill_turns(n, &mut turns);
@@ -40,7 +41,8 @@ pub fn to_trimesh3_torus(out: &mut [f32], curve: &[f32], directions: &[f32], n: 
 fn write_torus(out: &mut [f32], curve: &[f32], directions: &[f32], sweep: Sweep, turns: &[f32])
     requires { ⌜ ClosedSweep sweep (now curve) (now directions) (now turns) ⌝ }
     requires { ⌜ sweep .segments * (sweep .divisions * 3) ≤ length (now out) ⌝ }
-    ensures { λ _. ⌜ now (out .exit) ≡ overwrite 0 (torusVertices (sweep .divisions) (sweep .radius) (sweep .segments) (now (curve .entry))) (now (out .entry)) ⌝ }
+    ensures { λ _. let torus = torusVertices (sweep .divisions) (sweep .radius) (sweep .segments) (now (curve .entry)) in
+        ⌜ now (out .exit) ≡ overwrite 0 torus (now (out .entry)) ⌝ }
 {
     let order = sweep.order;
     let n = sweep.divisions as usize;

@@ -65,9 +65,11 @@ pub(crate) fn write_inner(
 ) -> Carried
     requires { ⌜ (1 ≤ sweep .segments) × (start ≡ carriedIn (now directions) 0) ⌝ }
     requires { ⌜ (sweep .segments * 3 ≤ length (now directions)) × (sweep .segments * 3 ≤ length (now ez)) ⌝ }
-    requires { ⌜ ((sweep .segments - 1) * (sweep .divisions * 3) ≤ length (now out)) × Turns (sweep .divisions) (now turns) ⌝ }
+    requires { ⌜ (sweep .segments - 1) * (sweep .divisions * 3) ≤ length (now out) ⌝ }
+    requires { ⌜ Turns (sweep .divisions) (now turns) ⌝ }
     ensures { λ r. ⌜ r ≡ carriedIn (now (directions .entry)) (sweep .segments - 1) ⌝ }
-    ensures { λ _. ⌜ now (out .exit) ≡ overwrite 0 (innerRings sweep (now (curve .entry)) (now (directions .entry)) (now (ez .entry))) (now (out .entry)) ⌝ }
+    ensures { λ _. let rings = innerRings sweep (now (curve .entry)) (now (directions .entry)) (now (ez .entry)) in
+        ⌜ now (out .exit) ≡ overwrite 0 rings (now (out .entry)) ⌝ }
 {
     let order = sweep.order;
     let count = sweep.segments;

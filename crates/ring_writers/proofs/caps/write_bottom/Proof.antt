@@ -48,7 +48,8 @@ returns c = let w = c .before .before in
     let old = now (a .out) in
     let rings = capRings Bottom (a .axes) (a .radius) (a .longitudes) (a .n) in
     let pole = p .before .sub .ensures ∙ ap (differenceOf (a .axes .origin)) (p .before .before .scale .ensures) in
-    written-behind 0 (coordinates (bottomPole (a .axes) (a .radius))) rings old (p .put-point .ensures ∙ ap (λ (q : Point). overwrite 0 (coordinates q) old) pole) refl
+    written-behind 0 (coordinates (bottomPole (a .axes) (a .radius))) rings old
+    (p .put-point .ensures ∙ ap (λ (q : Point). overwrite 0 (coordinates q) old) pole) refl
     (lent-from 3 rings (p .put-point .last .0) (w .write-cap .ensures))
 
 pub write-bottom-spec : {M : Type 1} → statement M

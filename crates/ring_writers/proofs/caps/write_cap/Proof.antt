@@ -24,7 +24,8 @@ ringAt end a r L n j = ringOf (capVertex end a r L j) n
 
 abbrev Inv-loop : tie.InvT-loop
 Inv-loop out₀ end axes radius longitudes n turns size place₀ j₀ out place j =
-    (out ≡ overwrite 0 (blocks j (ringAt end axes radius longitudes n)) out₀) × (place ≡ j * (n * 3)) × (j ≤ longitudes) × (length out ≡ length out₀)
+    (out ≡ overwrite 0 (blocks j (ringAt end axes radius longitudes n)) out₀) × (place ≡ j * (n * 3))
+    × (j ≤ longitudes) × (length out ≡ length out₀)
 
 abbrev μ-loop : tie.MeasureT-loop
 μ-loop out₀ end axes radius longitudes n turns size place₀ j₀ out place j = longitudes - j
@@ -36,7 +37,11 @@ mul-size c = omega arith
 room : (c : tie.In-loop Inv-loop μ-loop) → let a = c .before .before .before .before .args in
     c .before .loop .place + a .n * 3 ≤ length (now (a .out))
 room c = let s = c .before .before .before .before in
-    omega (arith, row-within (c .before .loop .j) (s .args .longitudes) (s .args .n * 3) (c .loop-test .taken), s .pre .0)
+    omega (
+      arith,
+      row-within (c .before .loop .j) (s .args .longitudes) (s .args .n * 3) (c .loop-test .taken),
+      s .pre .0,
+    )
 
 loop-holds : tie.Need-loop-holds Inv-loop μ-loop
 loop-holds c = (sym (overwrite-none _ _), omega arith, omega arith, refl)
@@ -45,7 +50,10 @@ cap-ring-requires : tie.Need-cap-ring-requires Inv-loop μ-loop
 cap-ring-requires c κs = search needs
 
 write-ring-requires : tie.Need-write-ring-requires Inv-loop μ-loop
-write-ring-requires c κs = (omega (arith, room (c .before .before)), c .before .before .before .before .before .before .pre .1)
+write-ring-requires c κs = (
+  omega (arith, room (c .before .before)),
+  c .before .before .before .before .before .before .pre .1,
+)
 
 add-place : tie.Need-add-place Inv-loop μ-loop
 add-place c = omega (arith, room (c .before .before .before .before .before))
@@ -60,9 +68,11 @@ loop-again : tie.Need-loop-again Inv-loop μ-loop
 loop-again c = let l = c .before .before .before .before .before .before .loop in
     let a = c .before .before .before .before .before .before .before .before .before .args in
     let f = ringAt (a .end) (a .axes) (a .radius) (a .longitudes) (a .n) in (
-      one-more 0 (l .j) (a .n * 3) f (now (a .out)) (λ k h. length-ring (capVertex (a .end) (a .axes) (a .radius) (a .longitudes) k) (a .n)) (l .inv .0)
+      one-more 0 (l .j) (a .n * 3) f (now (a .out)) (λ k h. length-ring
+          (capVertex (a .end) (a .axes) (a .radius) (a .longitudes) k) (a .n)) (l .inv .0)
           (omega arith) (c .before .before .write-ring .ensures)
-          (cap-ring (a .end) (a .axes) (a .radius) (a .longitudes) (l .j) (a .n) (c .before .before .before .cap-ring .ensures)),
+          (cap-ring (a .end) (a .axes) (a .radius) (a .longitudes) (l .j) (a .n)
+          (c .before .before .before .cap-ring .ensures)),
       omega (arith, next-row (l .j) (a .n * 3)),
       omega arith,
       c .before .before .write-ring .kept .0 ∙ l .inv .3,

@@ -43,7 +43,8 @@ returns c = let p = c .before .before in
     let size = a .longitudes * (a .n * 3) in
     let rings = capRings Top (a .axes) (a .radius) (a .longitudes) (a .n) in
     let pole = p .before .add .ensures ∙ ap (sumOf (a .axes .origin)) (p .before .before .scale .ensures) in
-    written-behind 0 rings (coordinates (topPole (a .axes) (a .radius))) (now (a .out)) (w .write-cap .ensures) (length-cap Top (a .axes) (a .radius) (a .longitudes) (a .n))
+    written-behind 0 rings (coordinates (topPole (a .axes) (a .radius))) (now (a .out)) (w .write-cap .ensures)
+    (length-cap Top (a .axes) (a .radius) (a .longitudes) (a .n))
     (p .put-point .ensures ∙ (λ j. overwrite (sym (zero-add size) j) (coordinates (pole j)) (w .write-cap .last .0)))
 
 pub write-top-spec : {M : Type 1} → statement M

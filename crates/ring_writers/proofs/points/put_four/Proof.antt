@@ -43,7 +43,8 @@ returns c = let p4 = c .before .before in
     let third = coordinates (a .q .third) in
     let old = now (a .out) in
     written-behind (a .at) ((first ++ second) ++ third) (coordinates (a .q .fourth)) old
-    (written-behind (a .at) (first ++ second) third old (written-behind (a .at) first second old (p1 .put-point .ensures) refl (p2 .put-point2 .ensures)) refl
+    (written-behind (a .at) (first ++ second) third old
+    (written-behind (a .at) first second old (p1 .put-point .ensures) refl (p2 .put-point2 .ensures)) refl
     (p3 .put-point3 .ensures)) refl (p4 .put-point4 .ensures)
 
 pub put-four-spec : {M : Type 1} → statement M

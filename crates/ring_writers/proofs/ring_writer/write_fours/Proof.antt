@@ -18,7 +18,8 @@ use Rattle.ring_writers.proofs.ring_writer.write_fours.Tie as tie
 
 abbrev Inv-loop : tie.InvT-loop
 Inv-loop out₀ at ring n turns place₀ k₀ i₀ out place k i =
-    (out ≡ overwrite at (blocks i (vertexOn (ringVertex ring) n)) out₀) × (place ≡ at + i * 3) × (k ≡ i * 3) × (i ≤ n) × (length out ≡ length out₀)
+    (out ≡ overwrite at (blocks i (vertexOn (ringVertex ring) n)) out₀) × (place ≡ at + i * 3) × (k ≡ i * 3) × (i ≤ n)
+    × (length out ≡ length out₀)
 
 abbrev μ-loop : tie.MeasureT-loop
 μ-loop out₀ at ring n turns place₀ k₀ i₀ out place k i = n - i
@@ -72,9 +73,12 @@ loop-again c = let w = c .before .before in
     let s = i .before .before .before .before in
     let a = s .args in
     let vertex = inOrder (a .ring .order) (a .ring) in
-    let made = f .four .ensures ∙ (λ j. fourOf vertex (f .before .before .four-at .ensures j) (f .before .four-at2 .ensures j)) in (
-      some-more (a .at) (l .i) 4 3 (vertexOn (ringVertex (a .ring)) (a .n)) (now (a .out)) (λ k h. refl) (l .inv .0) (l .inv .1) (w .put-four .ensures)
-          (ap fourCoordinates made ∙ four-vertices (a .ring) (a .n) (s .pre .1) (l .i) (i .loop-test .taken) (l .inv .2)),
+    let made = f .four .ensures ∙ (λ j. fourOf vertex (f .before .before .four-at .ensures j)
+    (f .before .four-at2 .ensures j)) in (
+      some-more (a .at) (l .i) 4 3 (vertexOn (ringVertex (a .ring)) (a .n)) (now (a .out)) (λ k h. refl) (l .inv .0)
+          (l .inv .1) (w .put-four .ensures)
+          (ap fourCoordinates made ∙ four-vertices (a .ring) (a .n) (s .pre .1) (l .i) (i .loop-test .taken)
+          (l .inv .2)),
       omega arith,
       omega arith,
       omega arith,

@@ -17,7 +17,8 @@ use Rattle.ring_writers.proofs.ring_writer.write_level.Tie as tie
 
 abbrev Inv-loop : tie.InvT-loop
 Inv-loop out₀ at radius y n turns k₀ i₀ out k i =
-    (out ≡ overwrite at (blocks i (vertexOn (levelAt radius y) n)) out₀) × (k ≡ i * 3) × (i ≤ n) × (length out ≡ length out₀)
+    (out ≡ overwrite at (blocks i (vertexOn (levelAt radius y) n)) out₀) × (k ≡ i * 3) × (i ≤ n)
+    × (length out ≡ length out₀)
 
 abbrev μ-loop : tie.MeasureT-loop
 μ-loop out₀ at radius y n turns k₀ i₀ out k i = n - i
@@ -65,8 +66,10 @@ loop-again c = let w = c .before .before in
     let l = i .before .loop in
     let s = i .before .before .before .before in
     let a = s .args in (
-      one-more (a .at) (l .i) 3 (vertexOn (levelAt (a .radius) (a .y)) (a .n)) (now (a .out)) (λ k h. refl) (l .inv .0) (omega arith) (w .put-point .ensures)
-          (ap coordinates (v .level .ensures ∙ ap (levelAt (a .radius) (a .y)) (direction-at (a .n) (s .pre .1) (l .i) (i .loop-test .taken) (l .inv .1)))),
+      one-more (a .at) (l .i) 3 (vertexOn (levelAt (a .radius) (a .y)) (a .n)) (now (a .out)) (λ k h. refl) (l .inv .0)
+          (omega arith) (w .put-point .ensures)
+          (ap coordinates (v .level .ensures ∙ ap (levelAt (a .radius) (a .y))
+          (direction-at (a .n) (s .pre .1) (l .i) (i .loop-test .taken) (l .inv .1)))),
       omega arith,
       omega arith,
       w .put-point .kept .0 ∙ l .inv .3,

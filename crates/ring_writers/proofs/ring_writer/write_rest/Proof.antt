@@ -23,7 +23,8 @@ later ring from n j = vertexOn (ringVertex ring) n (from + j)
 
 abbrev Inv-loop : tie.InvT-loop
 Inv-loop out₀ at ring from n turns k₀ i₀ out k i =
-    (out ≡ overwrite (at + from * 3) (blocks (i - from) (later ring from n)) out₀) × (k ≡ i * 3) × (from ≤ i) × (i ≤ n) × (length out ≡ length out₀)
+    (out ≡ overwrite (at + from * 3) (blocks (i - from) (later ring from n)) out₀) × (k ≡ i * 3) × (from ≤ i) × (i ≤ n)
+    × (length out ≡ length out₀)
 
 abbrev μ-loop : tie.MeasureT-loop
 μ-loop out₀ at ring from n turns k₀ i₀ out k i = n - i
@@ -35,7 +36,8 @@ loop-holds : tie.Need-loop-holds Inv-loop μ-loop
 loop-holds c = let s = c .before .before in
     let a = s .args in
     let none : 0 ≡ a .from - a .from = omega arith in (
-      sym (overwrite-none _ _) ∙ ap (λ (k : ℕ). overwrite (a .at + a .from * 3) (blocks k (later (a .ring) (a .from) (a .n))) (now (a .out))) none,
+      sym (overwrite-none _ _) ∙ ap (λ (k : ℕ). overwrite (a .at + a .from * 3)
+          (blocks k (later (a .ring) (a .from) (a .n))) (now (a .out))) none,
       refl,
       omega arith,
       s .pre .0,
@@ -78,11 +80,14 @@ loop-again c = let w = c .before .before in
     let a = s .args in
     let here : l .i ≡ a .from + (l .i - a .from) = omega arith in
     let next : l .i - a .from + 1 ≡ l .i + 1 - a .from = omega arith in
-    let made = v .vertex .ensures ∙ (λ j. inOrder (a .ring .order) (a .ring) (v .before .before .point .ensures j) (v .before .point2 .ensures j)) in (
+    let made = v .vertex .ensures ∙ (λ j. inOrder (a .ring .order) (a .ring) (v .before .before .point .ensures j)
+    (v .before .point2 .ensures j)) in (
       all-written (a .at + a .from * 3) (later (a .ring) (a .from) (a .n)) (now (a .out))
-          (one-more (a .at + a .from * 3) (l .i - a .from) 3 (later (a .ring) (a .from) (a .n)) (now (a .out)) (λ k h. refl) (l .inv .0) (omega arith)
+          (one-more (a .at + a .from * 3) (l .i - a .from) 3 (later (a .ring) (a .from) (a .n)) (now (a .out))
+          (λ k h. refl) (l .inv .0) (omega arith)
           (w .put-point .ensures)
-          (ap coordinates (made ∙ vertex-at (a .ring) (a .n) (s .pre .2) (l .i) (i .loop-test .taken) (l .inv .1) (omega arith)) ∙ ap (vertexOn (ringVertex (a .ring)) (a .n)) here))
+          (ap coordinates (made ∙ vertex-at (a .ring) (a .n) (s .pre .2) (l .i) (i .loop-test .taken) (l .inv .1)
+          (omega arith)) ∙ ap (vertexOn (ringVertex (a .ring)) (a .n)) here))
           next,
       omega arith,
       omega arith,

@@ -27,7 +27,8 @@ returns c = let r = c .before .before in
     let vertex = vertexOn (ringVertex (a .ring)) (a .n) in
     let all : done + (a .n - done) ≡ a .n = omega (arith, f .write-fours .ensures .0) in
     all-written (a .at) vertex (now (a .out))
-    (some-more (a .at) done (a .n - done) 3 vertex (now (a .out)) (λ k h. refl) (f .write-fours .ensures .1) refl (r .write-rest .ensures) refl) all
+    (some-more (a .at) done (a .n - done) 3 vertex (now (a .out)) (λ k h. refl) (f .write-fours .ensures .1) refl
+    (r .write-rest .ensures) refl) all
 
 pub write-ring-spec : {M : Type 1} → statement M
 write-ring-spec = tie.close (tie.spec write-fours-requires write-rest-requires same-length returns)

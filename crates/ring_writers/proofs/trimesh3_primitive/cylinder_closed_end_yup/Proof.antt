@@ -54,8 +54,11 @@ slice-aggregate-write-levels c = search needs
 
 write-levels-requires : tie.Need-write-levels-requires
 write-levels-requires c κs = let p = c .before .before .before .before in
-    let s = p .before .before .before .before .before .before .before in
-    (s .pre .1, omega (arith, length-rest 3 (p .put-point .last .0), p .put-point .kept .0, s .pre .2), p .before .before .before .before .fill-turns .ensures)
+    let s = p .before .before .before .before .before .before .before in (
+      s .pre .1,
+      omega (arith, length-rest 3 (p .put-point .last .0), p .put-point .kept .0, s .pre .2),
+      p .before .before .before .before .fill-turns .ensures,
+    )
 
 put-point-requires-2 : tie.Need-put-point-requires-2
 put-point-requires-2 c κs = search needs
@@ -73,11 +76,14 @@ returns c = let q = c .before .before in
     let top = coordinates (pole (plus (w .result) (a .height))) in
     let size = length-rings (levelVertex (a .radius) (w .result) (a .height) (a .layers)) (a .layers + 1) (a .n) in
     let below = p .put-point .last .0 in
-    let above = written-behind 3 rings top below (lent-from 3 rings below (m .write-levels .ensures)) size (q .put-point2 .ensures) in
+    let above = written-behind 3 rings top below (lent-from 3 rings below (m .write-levels .ensures)) size
+    (q .put-point2 .ensures) in
     written-behind 0 (coordinates (pole (w .result))) (rings ++ top) (now (a .out)) (p .put-point .ensures) refl above
     ∙ ap (λ (y : Float). overwrite 0 (coordinates (pole y)
-    ++ (cylinderRings (a .radius) y (a .height) (a .layers) (a .n) ++ coordinates (pole (plus y (a .height))))) (now (a .out))) (w .ensures)
-    ∙ ap (λ (l : List Float). overwrite 0 l (now (a .out))) (sym (cylinder-parts (a .radius) (a .height) (a .n) (a .layers) (a .centred)))
+    ++ (cylinderRings (a .radius) y (a .height) (a .layers) (a .n) ++ coordinates (pole (plus y (a .height)))))
+    (now (a .out))) (w .ensures)
+    ∙ ap (λ (l : List Float). overwrite 0 l (now (a .out)))
+    (sym (cylinder-parts (a .radius) (a .height) (a .n) (a .layers) (a .centred)))
 
 pub cylinder-closed-end-yup-spec : {M : Type 1} → statement M
 cylinder-closed-end-yup-spec =

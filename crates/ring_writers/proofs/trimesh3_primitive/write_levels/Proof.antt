@@ -22,7 +22,8 @@ ringAt r low height S n g = ringOf (levelVertex r low height S g) n
 
 abbrev Inv-loop : tie.InvT-loop
 Inv-loop out₀ radius low height layers n turns step size place₀ g₀ out place g =
-    (out ≡ overwrite 0 (blocks g (ringAt radius low height layers n)) out₀) × (place ≡ g * (n * 3)) × (g ≤ layers + 1) × (length out ≡ length out₀)
+    (out ≡ overwrite 0 (blocks g (ringAt radius low height layers n)) out₀) × (place ≡ g * (n * 3)) × (g ≤ layers + 1)
+    × (length out ≡ length out₀)
 
 abbrev μ-loop : tie.MeasureT-loop
 μ-loop out₀ radius low height layers n turns step size place₀ g₀ out place g = layers + 1 - g
@@ -46,7 +47,10 @@ int-to-float-y : tie.Need-int-to-float-y Inv-loop μ-loop
 int-to-float-y c = search needs
 
 write-level-requires : tie.Need-write-level-requires Inv-loop μ-loop
-write-level-requires c κs = (omega (arith, room (c .before .before)), c .before .before .before .before .before .before .before .pre .2)
+write-level-requires c κs = (
+  omega (arith, room (c .before .before)),
+  c .before .before .before .before .before .before .before .pre .2,
+)
 
 add-place : tie.Need-add-place Inv-loop μ-loop
 add-place c = omega (arith, room (c .before .before .before .before .before))
@@ -62,7 +66,8 @@ unfolding whole
 loop-again c = let l = c .before .before .before .before .before .before .loop in
     let a = c .before .before .before .before .before .before .before .before .before .before .args in
     let f = ringAt (a .radius) (a .low) (a .height) (a .layers) (a .n) in (
-      one-more 0 (l .g) (a .n * 3) f (now (a .out)) (λ k h. length-ring (levelVertex (a .radius) (a .low) (a .height) (a .layers) k) (a .n)) (l .inv .0)
+      one-more 0 (l .g) (a .n * 3) f (now (a .out)) (λ k h. length-ring
+          (levelVertex (a .radius) (a .low) (a .height) (a .layers) k) (a .n)) (l .inv .0)
           (omega arith) (c .before .before .write-level .ensures) refl,
       omega (arith, next-row (l .g) (a .n * 3)),
       omega arith,

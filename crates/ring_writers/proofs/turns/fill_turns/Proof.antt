@@ -29,16 +29,19 @@ sine n k = thrice (turnOf k n .sin)
 
 -- the table with i cosines and j sines
 abbrev filled : ℕ → ℕ → ℕ → List Float → List Float
-filled n i j t₀ = overwrite 768 (blocks j (λ k. coordinates (sine n k))) (overwrite 0 (blocks i (λ k. coordinates (cosine n k))) t₀)
+filled n i j t₀ = overwrite 768 (blocks j (λ k. coordinates (sine n k)))
+    (overwrite 0 (blocks i (λ k. coordinates (cosine n k))) t₀)
 
 abbrev Inv-loop : tie.InvT-loop
-Inv-loop n turns₀ place₀ i₀ turns place i = (turns ≡ filled n i i turns₀) × (place ≡ i * 3) × (i ≤ n) × (length turns ≡ length turns₀)
+Inv-loop n turns₀ place₀ i₀ turns place i = (turns ≡ filled n i i turns₀) × (place ≡ i * 3) × (i ≤ n)
+    × (length turns ≡ length turns₀)
 
 abbrev μ-loop : tie.MeasureT-loop
 μ-loop n turns₀ place₀ i₀ turns place i = n - i
 
 -- a cosine is written before the sines
-cosine-written : (n i : ℕ) (t₀ : List Float) {t t′ v : List Float} {p : ℕ} → i < 256 → t ≡ filled n i i t₀ → p ≡ i * 3 → t′ ≡ overwrite p v t
+cosine-written : (n i : ℕ) (t₀ : List Float) {t t′ v : List Float} {p : ℕ} → i < 256 → t ≡ filled n i i t₀ → p ≡ i * 3
+    → t′ ≡ overwrite p v t
     → v ≡ coordinates (cosine n i) → t′ ≡ filled n (i + 1) i t₀
 cosine-written n i t₀ {t} h before place written is =
     let sines = blocks i (λ k. coordinates (sine n k)) in
@@ -47,7 +50,8 @@ cosine-written n i t₀ {t} h before place written is =
     ∙ (λ j. overwrite (place j) (is j) (before j))
     ∙ sym (overwrite-swap (i * 3) 768 (coordinates (cosine n i)) sines cosines (omega arith))
     ∙ ap (λ (l : List Float). overwrite 768 sines l)
-    (one-more 0 i 3 (λ k. coordinates (cosine n k)) t₀ {t = cosines} {p = i * 3} (λ k h. refl) refl (omega arith) refl refl)
+    (one-more 0 i 3 (λ k. coordinates (cosine n k)) t₀ {t = cosines} {p = i * 3} (λ k h. refl) refl
+    (omega arith) refl refl)
 
 loop-holds : tie.Need-loop-holds Inv-loop μ-loop
 loop-holds c = (sym (overwrite-none _ _ ∙ overwrite-none _ _), omega arith, omega arith, refl)
@@ -89,7 +93,8 @@ loop-again c = let w = c .before .before in
     let l = t .before .before .loop in
     let a = t .before .before .before .before .args in
     let d = t .turn .ensures in (
-      one-more 768 (l .i) 3 (λ k. coordinates (sine (a .n) k)) (overwrite 0 (blocks (l .i + 1) (λ k. coordinates (cosine (a .n) k))) (now (a .turns))) (λ k h. refl)
+      one-more 768 (l .i) 3 (λ k. coordinates (sine (a .n) k))
+          (overwrite 0 (blocks (l .i + 1) (λ k. coordinates (cosine (a .n) k))) (now (a .turns))) (λ k h. refl)
           (cosine-written (a .n) (l .i) (now (a .turns)) (omega arith) (l .inv .0) (l .inv .1) (v .put-point .ensures)
           (ap coordinates (v .before .thrice .ensures ∙ ap (λ (d : Direction). thrice (d .cos)) d)))
           (omega arith) (w .put-point2 .ensures)
@@ -116,8 +121,10 @@ returns c = let o = c .before .loop in
     record {
       most = s .pre .0;
       room = omega arith;
-      cosine = λ k h. ap (λ (t : List Float). pointAt t (k * 3)) (is ∙ overwrite-swap 0 768 cosines sines t₀ (omega arith))
-          ∙ table-point 0 n (cosine n) (overwrite 768 sines t₀) k (omega (arith, length-overwrite 768 sines t₀)) h (omega arith);
+      cosine = λ k h. ap (λ (t : List Float). pointAt t (k * 3))
+          (is ∙ overwrite-swap 0 768 cosines sines t₀ (omega arith))
+          ∙ table-point 0 n (cosine n) (overwrite 768 sines t₀) k (omega (arith, length-overwrite 768 sines t₀)) h
+          (omega arith);
       sine = λ k h. ap (λ (t : List Float). pointAt t (768 + k * 3)) is
           ∙ table-point 768 n (sine n) (overwrite 0 cosines t₀) k (omega arith) h refl;
     }

@@ -46,12 +46,19 @@ returns : tie.Need-returns
 returns c = let t = c .before .before .before .before .before in
     let above = t .before in
     let scale = c .before .before .before .scale in
-    rw (above .before .enum-told .given .1, ← above .rings-above .ensures, ← t .turn .ensures, ← scale .ensures, ← c .before .before .add .ensures) (c .around .ensures)
+    rw (
+      above .before .enum-told .given .1,
+      ← above .rings-above .ensures,
+      ← t .turn .ensures,
+      ← scale .ensures,
+      ← c .before .before .add .ensures,
+    ) (c .around .ensures)
 
 returns-2 : tie.Need-returns-2
 returns-2 c = let t = c .before .before .before .before .before in
     let scale = c .before .before .before .scale2 in
-    rw (t .before .enum-told2 .given .1, ← t .turn2 .ensures, ← scale .ensures, ← c .before .before .add2 .ensures) (c .around2 .ensures)
+    rw (t .before .enum-told2 .given .1, ← t .turn2 .ensures, ← scale .ensures, ← c .before .before .add2 .ensures)
+    (c .around2 .ensures)
 
 pub cap-ring-spec : {M : Type 1} → statement M
 cap-ring-spec =

@@ -30,9 +30,11 @@ returns : tie.Need-returns
 returns c = let q = c .before .before .before in
     let first = q .before .before .before .before .before in
     let a = first .before .before .before .args in
-    written-behind (a .at) (coordinates (a .p)) (coordinates (q .add .result)) (now (a .out)) (first .put-point .ensures) refl
+    written-behind (a .at) (coordinates (a .p)) (coordinates (q .add .result)) (now (a .out))
+    (first .put-point .ensures) refl
     (c .before .before .put-point2 .ensures)
-    ∙ ap (λ x. overwrite (a .at) (coordinates (a .p) ++ coordinates x) (now (a .out))) (q .add .ensures ∙ ap (sumOf (a .p)) (q .before .scale .ensures))
+    ∙ ap (λ x. overwrite (a .at) (coordinates (a .p) ++ coordinates x) (now (a .out)))
+    (q .add .ensures ∙ ap (sumOf (a .p)) (q .before .scale .ensures))
 
 pub put-pair-spec : {M : Type 1} → statement M
 put-pair-spec =

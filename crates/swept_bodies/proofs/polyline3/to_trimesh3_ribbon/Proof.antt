@@ -60,11 +60,19 @@ put-pair-requires c κs = omega arith
 
 loop-holds : tie.Need-loop-holds Inv-loop μ-loop
 loop-holds c = let f = c .before .before .before .before .before in
-    let s = f .before .before .before .before .before in
-    (sym (overwrite-none _ _), f .first .ensures ∙ ap carriedOn (f .before .point .ensures), omega arith, omega arith, omega arith, s .pre .0 .segment, refl)
+    let s = f .before .before .before .before .before in (
+      sym (overwrite-none _ _),
+      f .first .ensures ∙ ap carriedOn (f .before .point .ensures),
+      omega arith,
+      omega arith,
+      omega arith,
+      s .pre .0 .segment,
+      refl,
+    )
 
 point-requires-2 : tie.Need-point-requires-2 Inv-loop μ-loop
-point-requires-2 c κs = let s = c .before .before .before .before .before .before .before .before .before .before .before .before in omega (arith, s .pre .0 .table .room)
+point-requires-2 c κs = let s = c .before .before .before .before .before .before .before .before .before .before
+    .before .before in omega (arith, s .pre .0 .table .room)
 
 next-requires : tie.Need-next-requires Inv-loop μ-loop
 next-requires c κs = search needs
@@ -110,9 +118,12 @@ loop-again c = let w = c .before .before in
     let place : l .place ≡ 6 + (l .g - 1) * 6 = omega arith in
     let along = n .before .point2 .ensures ∙ ap (pointAt dirs) (l .inv .3) in
     let on = carried-on dirs (l .g) (l .inv .4) (l .inv .1) along (n .next .ensures) in
-    let frame = ap (λ (b : Carried). b .frame) on ∙ frame-within m curve (s .pre .0 .table) (s .pre .0 .segment) (l .g) (i .loop-test .taken) in (
-      all-written 6 f (first .put-pair .last .0) (one-more 6 (l .g - 1) 6 f (first .put-pair .last .0) (λ k h. refl) (l .inv .0) place (w .put-pair2 .ensures)
-          ((λ i. ribbonPair (w .before .vertex2 .ensures i) (frame i) (a .width)) ∙ ap (ribbonPart (a .width) m curve) (sym here))) (here ∙ next),
+    let frame = ap (λ (b : Carried). b .frame) on ∙ frame-within m curve (s .pre .0 .table) (s .pre .0 .segment) (l .g)
+    (i .loop-test .taken) in (
+      all-written 6 f (first .put-pair .last .0) (one-more 6 (l .g - 1) 6 f (first .put-pair .last .0) (λ k h. refl)
+          (l .inv .0) place (w .put-pair2 .ensures)
+          ((λ i. ribbonPair (w .before .vertex2 .ensures i) (frame i) (a .width))
+          ∙ ap (ribbonPart (a .width) m curve) (sym here))) (here ∙ next),
       on ∙ ap (carriedIn dirs) next,
       omega arith,
       omega arith,
@@ -126,11 +137,13 @@ vertex-requires-3 c κs = search needs
 
 put-pair-requires-3 : tie.Need-put-pair-requires-3 Inv-loop μ-loop
 put-pair-requires-3 c κs = let first = c .before .before .before .before .before .before .put-pair .kept .0 in
-    let s = c .before .before .before .before .before .before .before .before .before .before .before .before .before .before in
+    let s = c .before .before .before .before .before .before .before .before .before .before .before .before .before
+    .before in
     omega (arith, s .pre .1)
 
 same-length : tie.Need-same-length Inv-loop μ-loop
-same-length c = c .before .before .put-pair3 .kept .0 ∙ c .before .before .before .before .before .before .loop .inv .6 ∙ c .before .before .before .before .before .before .before .before .before .put-pair .kept .0
+same-length c = c .before .before .put-pair3 .kept .0 ∙ c .before .before .before .before .before .before .loop .inv .6
+    ∙ c .before .before .before .before .before .before .before .before .before .put-pair .kept .0
 
 returns : tie.Need-returns Inv-loop μ-loop
 returns c = let w = c .before .before in
@@ -146,10 +159,13 @@ returns c = let w = c .before .before in
     let segment = s .pre .0 .segment in
     let e : o .g - 1 ≡ m - 1 = omega arith in
     let place : o .place ≡ 6 + (m - 1) * 6 = omega arith in
-    let start = first .before .before .before .first .ensures ∙ ap carriedOn (first .before .before .before .before .point .ensures) in
+    let start = first .before .before .before .first .ensures
+    ∙ ap carriedOn (first .before .before .before .before .point .ensures) in
     let frame = ap (λ (b : Carried). b .frame) start ∙ frame-within m curve table segment 0 segment in
-    let frame-end = ap (λ (b : Carried). b .frame) (o .inv .1 ∙ ap (carriedIn dirs) e) ∙ frame-last m curve table segment in
-    ends-written m 6 ((m - 1) * 6) f (now (a .out)) segment refl (length-blocks 6 (m - 1) (laterPair (a .width) m curve) (λ k h. refl)) (first .put-pair .ensures)
+    let frame-end = ap (λ (b : Carried). b .frame) (o .inv .1 ∙ ap (carriedIn dirs) e)
+    ∙ frame-last m curve table segment in
+    ends-written m 6 ((m - 1) * 6) f (now (a .out)) segment refl
+    (length-blocks 6 (m - 1) (laterPair (a .width) m curve) (λ k h. refl)) (first .put-pair .ensures)
     (λ i. ribbonPair (first .before .vertex .ensures i) (frame i) (a .width))
     (all-written 6 (laterPair (a .width) m curve) (first .put-pair .last .0) (o .inv .0) e)
     (w .put-pair3 .ensures) place

@@ -42,7 +42,8 @@ abbrev place : tie.Start → ℕ
 place s = bottom s + (s .args .sweep .segments - 1) * size s
 
 -- the three writes are within bounds
-room : (s : tie.Start) → (size s ≤ 768) × (s .args .longitudes * size s ≤ 196608) × (place s + bottom s ≤ length (now (s .args .out)))
+room : (s : tie.Start) → (size s ≤ 768) × (s .args .longitudes * size s ≤ 196608)
+    × (place s + bottom s ≤ length (now (s .args .out)))
 room s = let L = s .args .longitudes in
     let m = s .args .sweep .segments in
     let p = s .pre .1 in
@@ -52,7 +53,8 @@ room s = let L = s .args .longitudes in
     omega (arith, mul-le-mul-right (size s) (p .cap), few, ap (λ (k : ℕ). k * size s) e, p .within)
 
 -- what is carried begins on the first segment
-start : (f : tie.After-first) → f .first .result ≡ carriedIn (now (f .before .before .before .before .before .before .before .before .args .directions)) 0
+start : (f : tie.After-first) → f .first .result ≡ carriedIn
+    (now (f .before .before .before .before .before .before .before .before .args .directions)) 0
 start f = f .first .ensures ∙ ap carriedOn (f .before .point .ensures)
 
 cast-m : tie.Need-cast-m
@@ -71,7 +73,8 @@ add-cap : tie.Need-add-cap
 add-cap c = let s = c .before .before .before .before .before .before in omega (arith, room s)
 
 point-requires : tie.Need-point-requires
-point-requires c κs = let s = c .before .before .before .before .before .before in omega (arith, s .pre .0 .segment, s .pre .0 .table .room)
+point-requires c κs = let s = c .before .before .before .before .before .before in
+    omega (arith, s .pre .0 .segment, s .pre .0 .table .room)
 
 first-requires : tie.Need-first-requires
 first-requires c κs = search needs
@@ -80,16 +83,20 @@ axes-on-requires : tie.Need-axes-on-requires
 axes-on-requires c κs = search needs
 
 write-bottom-requires : tie.Need-write-bottom-requires
-write-bottom-requires c κs = let s = c .before .before .before .before .before .before .before .before .before .before in (omega (arith, room s), s .pre .0 .turned)
+write-bottom-requires c κs = let s = c .before .before .before .before .before .before .before .before .before
+    .before in (omega (arith, room s), s .pre .0 .turned)
 
 mul-inner : tie.Need-mul-inner
-mul-inner c = let s = c .before .before .before .before .before .before .before .before .before .before .before .before .before in omega (arith, room s)
+mul-inner c = let s = c .before .before .before .before .before .before .before .before .before .before .before .before
+    .before in omega (arith, room s)
 
 sub-inner : tie.Need-sub-inner
-sub-inner c = let s = c .before .before .before .before .before .before .before .before .before .before .before .before .before in omega (arith, room s, c .before .before .write-bottom .kept .0)
+sub-inner c = let s = c .before .before .before .before .before .before .before .before .before .before .before .before
+    .before in omega (arith, room s, c .before .before .write-bottom .kept .0)
 
 part-inner-start : tie.Need-part-inner-start
-part-inner-start c = let s = c .before .before .before .before .before .before .before .before .before .before .before .before .before in omega (arith, room s, c .before .before .write-bottom .kept .0)
+part-inner-start c = let s = c .before .before .before .before .before .before .before .before .before .before .before
+    .before .before in omega (arith, room s, c .before .before .write-bottom .kept .0)
 
 part-inner-end : tie.Need-part-inner-end
 part-inner-end c = search needs
@@ -115,14 +122,23 @@ rings s = innerRings (s .args .sweep) (now (s .args .curve)) (now (s .args .dire
 
 abbrev after : tie.After-write-inner → List Float
 after e = let w = e .before .before .before .before .write-bottom .last .0 in
-    let s = e .before .before .before .before .before .before .before .before .before .before .before .before .before .before .before in
+    let s = e .before .before .before .before .before .before .before .before .before .before .before .before .before
+    .before .before in
     putMid (bottom s) (length w - bottom s) w (e .write-inner .last .0)
 
-inner : (e : tie.After-write-inner) → after e ≡ overwrite (bottom (e .before .before .before .before .before .before .before .before .before .before .before .before .before .before .before)) (rings (e .before .before .before .before .before .before .before .before .before .before .before .before .before .before .before)) (e .before .before .before .before .write-bottom .last .0)
-inner e = let s = e .before .before .before .before .before .before .before .before .before .before .before .before .before .before .before in lent-from (bottom s) (rings s) (e .before .before .before .before .write-bottom .last .0) (e .write-inner .ensures .1)
+inner : (e : tie.After-write-inner) → after e ≡ overwrite
+    (bottom (e .before .before .before .before .before .before .before .before .before .before .before .before .before
+    .before .before)) (rings (e .before .before .before .before .before .before .before .before .before .before .before
+    .before .before .before .before)) (e .before .before .before .before .write-bottom .last .0)
+inner e = let s = e .before .before .before .before .before .before .before .before .before .before .before .before
+    .before .before .before in lent-from (bottom s) (rings s)
+    (e .before .before .before .before .write-bottom .last .0) (e .write-inner .ensures .1)
 
-same : (e : tie.After-write-inner) → length (after e) ≡ length (now (e .before .before .before .before .before .before .before .before .before .before .before .before .before .before .before .args .out))
-same e = let s = e .before .before .before .before .before .before .before .before .before .before .before .before .before .before .before in
+same : (e : tie.After-write-inner) → length (after e) ≡ length
+    (now (e .before .before .before .before .before .before .before .before .before .before .before .before .before
+    .before .before .args .out))
+same e = let s = e .before .before .before .before .before .before .before .before .before .before .before .before
+    .before .before .before in
     let w = e .before .before .before .before in
     ap length (inner e) ∙ length-overwrite (bottom s) (rings s) (w .write-bottom .last .0) ∙ w .write-bottom .kept .0
 
@@ -130,25 +146,31 @@ axes-on-requires-2 : tie.Need-axes-on-requires-2
 axes-on-requires-2 c κs = search needs
 
 sub-top : tie.Need-sub-top
-sub-top c = let s = c .before .before .before .before .before .before .before .before .before .before .before .before .before .before .before .before .before .before in omega (arith, s .pre .0 .segment)
+sub-top c = let s = c .before .before .before .before .before .before .before .before .before .before .before .before
+    .before .before .before .before .before .before in omega (arith, s .pre .0 .segment)
 
 mul-top : tie.Need-mul-top
-mul-top c = let s = c .before .before .before .before .before .before .before .before .before .before .before .before .before .before .before .before .before .before in omega (arith, room s)
+mul-top c = let s = c .before .before .before .before .before .before .before .before .before .before .before .before
+    .before .before .before .before .before .before in omega (arith, room s)
 
 add-top : tie.Need-add-top
-add-top c = let s = c .before .before .before .before .before .before .before .before .before .before .before .before .before .before .before .before .before .before in omega (arith, room s)
+add-top c = let s = c .before .before .before .before .before .before .before .before .before .before .before .before
+    .before .before .before .before .before .before in omega (arith, room s)
 
 mul-top-2 : tie.Need-mul-top-2
-mul-top-2 c = let s = c .before .before .before .before .before .before .before .before .before .before .before .before .before .before .before .before .before .before in omega (arith, room s)
+mul-top-2 c = let s = c .before .before .before .before .before .before .before .before .before .before .before .before
+    .before .before .before .before .before .before in omega (arith, room s)
 
 sub-top-2 : tie.Need-sub-top-2
 sub-top-2 c = let e = c .before .before .before in
-    let s = e .before .before .before .before .before .before .before .before .before .before .before .before .before .before .before in
+    let s = e .before .before .before .before .before .before .before .before .before .before .before .before .before
+    .before .before in
     omega (arith, room s, same e)
 
 part-top-start : tie.Need-part-top-start
 part-top-start c = let e = c .before .before .before in
-    let s = e .before .before .before .before .before .before .before .before .before .before .before .before .before .before .before in
+    let s = e .before .before .before .before .before .before .before .before .before .before .before .before .before
+    .before .before in
     omega (arith, room s, same e)
 
 part-top-end : tie.Need-part-top-end
@@ -156,7 +178,8 @@ part-top-end c = search needs
 
 write-top-requires : tie.Need-write-top-requires
 write-top-requires c κs = let e = c .before .before .before .before in
-    let s = e .before .before .before .before .before .before .before .before .before .before .before .before .before .before .before in
+    let s = e .before .before .before .before .before .before .before .before .before .before .before .before .before
+    .before .before in
     (omega (arith, room s, length-rest (place s) (after e), same e), s .pre .0 .turned)
 
 same-length : tie.Need-same-length
@@ -178,14 +201,17 @@ returns c = let t = c .before .before in
     let curve = now (a .curve) in
     let has = s .pre .0 in
     let before = w .write-bottom .last .0 in
-    let first = x .axes-on .ensures ∙ ap (λ (b : Carried). axesAt (vertexOf curve 0) (b .frame) (b .direction)) (start f) ∙ axes-first m curve (has .table) (has .segment) in
-    let last = y .axes-on2 .ensures ∙ ap (λ (b : Carried). axesAt (vertexOf curve m) (b .frame) (b .direction)) (e .write-inner .ensures .0)
+    let first = x .axes-on .ensures ∙ ap (λ (b : Carried). axesAt (vertexOf curve 0) (b .frame) (b .direction))
+    (start f) ∙ axes-first m curve (has .table) (has .segment) in
+    let last = y .axes-on2 .ensures ∙ ap (λ (b : Carried). axesAt (vertexOf curve m) (b .frame) (b .direction))
+    (e .write-inner .ensures .0)
     ∙ axes-last m curve (has .table) (has .segment) in
     ends-written m (bottom s) ((m - 1) * size s) (capsulePart n L r m curve) (now (a .out)) (has .segment)
     (length-end Bottom (axesOf m curve 0) r L n)
     (ap length (parts-inner n L r m curve) ∙ length-rings (λ k. tubeVertex (axesOf m curve (k + 1)) r) (m - 1) n)
     (w .write-bottom .ensures) (ap (λ (b : Axes). endVertices Bottom b r L n) first)
-    (inner e ∙ ap (λ (v : List Float). overwrite (bottom s) v before) (tube-inner (a .sweep) curve has ∙ sym (parts-inner n L r m curve)))
+    (inner e ∙ ap (λ (v : List Float). overwrite (bottom s) v before)
+    (tube-inner (a .sweep) curve has ∙ sym (parts-inner n L r m curve)))
     (lent-from (place s) (endVertices Top (y .axes-on2 .result) r L n) (after e) (t .write-top .ensures)) refl
     (ap (λ (b : Axes). endVertices Top b r L n) last ∙ sym (part-last n L r m curve (has .segment)))
 

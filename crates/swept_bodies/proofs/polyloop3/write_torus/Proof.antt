@@ -32,21 +32,24 @@ abbrev size : tie.Start → ℕ
 size s = s .args .sweep .divisions * 3
 
 -- both writes are within bounds
-room : (s : tie.Start) → (size s ≤ 768) × (size s + (s .args .sweep .segments - 1) * size s ≤ length (now (s .args .out)))
+room : (s : tie.Start) → (size s ≤ 768) × (size s + (s .args .sweep .segments - 1) * size s ≤ length
+    (now (s .args .out)))
 room s = let N = s .args .sweep .segments in
     let segment = s .pre .0 .segment in
     let e : N - 1 + 1 ≡ N = omega arith in
     omega (arith, s .pre .0 .turned .most, s .pre .1, next-row (N - 1) (size s), ap (λ (k : ℕ). k * size s) e)
 
 -- what is carried begins on the first segment
-start : (f : tie.After-first) → f .first .result ≡ carriedIn (now (f .before .before .before .before .before .before .before .args .directions)) 0
+start : (f : tie.After-first) → f .first .result ≡ carriedIn
+    (now (f .before .before .before .before .before .before .before .args .directions)) 0
 start f = f .first .ensures ∙ ap carriedOn (f .before .point .ensures)
 
 cast-n : tie.Need-cast-n
 cast-n c = search needs
 
 point-requires : tie.Need-point-requires
-point-requires c κs = let s = c .before .before .before .before .before in omega (arith, s .pre .0 .segment, s .pre .0 .table .room)
+point-requires c κs = let s = c .before .before .before .before .before in
+    omega (arith, s .pre .0 .segment, s .pre .0 .table .room)
 
 first-requires : tie.Need-first-requires
 first-requires c κs = search needs
@@ -58,19 +61,24 @@ around-requires : tie.Need-around-requires
 around-requires c κs = search needs
 
 write-ring-requires : tie.Need-write-ring-requires
-write-ring-requires c κs = let s = c .before .before .before .before .before .before .before .before .before .before in (omega (arith, room s), s .pre .0 .turned)
+write-ring-requires c κs = let s = c .before .before .before .before .before .before .before .before .before .before in
+    (omega (arith, room s), s .pre .0 .turned)
 
 mul-others : tie.Need-mul-others
-mul-others c = let s = c .before .before .before .before .before .before .before .before .before .before .before .before .before in omega (arith, room s)
+mul-others c = let s = c .before .before .before .before .before .before .before .before .before .before .before
+    .before .before in omega (arith, room s)
 
 mul-others-2 : tie.Need-mul-others-2
-mul-others-2 c = let s = c .before .before .before .before .before .before .before .before .before .before .before .before .before in omega (arith, room s)
+mul-others-2 c = let s = c .before .before .before .before .before .before .before .before .before .before .before
+    .before .before in omega (arith, room s)
 
 sub-others : tie.Need-sub-others
-sub-others c = let s = c .before .before .before .before .before .before .before .before .before .before .before .before .before in omega (arith, room s, c .before .before .write-ring .kept .0)
+sub-others c = let s = c .before .before .before .before .before .before .before .before .before .before .before
+    .before .before in omega (arith, room s, c .before .before .write-ring .kept .0)
 
 part-others-start : tie.Need-part-others-start
-part-others-start c = let s = c .before .before .before .before .before .before .before .before .before .before .before .before .before in omega (arith, room s, c .before .before .write-ring .kept .0)
+part-others-start c = let s = c .before .before .before .before .before .before .before .before .before .before .before
+    .before .before in omega (arith, room s, c .before .before .write-ring .kept .0)
 
 part-others-end : tie.Need-part-others-end
 part-others-end c = search needs
@@ -107,11 +115,14 @@ returns c = let e = c .before .before in
     let dirs = now (a .directions) in
     let has = s .pre .0 in
     let after = w .write-ring .last .0 in
-    let first = x .axes-on .ensures ∙ ap (λ (b : Carried). axesAt (vertexOf curve 0) (b .frame) (b .direction)) (start f)
+    let first = x .axes-on .ensures ∙ ap (λ (b : Carried). axesAt (vertexOf curve 0) (b .frame) (b .direction))
+    (start f)
     ∙ axes-loop-first N curve (has .table) (has .segment) in
-    first-and-others N (size s) (torusPart n r N curve) (now (a .out)) (has .segment) (length-ring (torusVertex (axesOf N curve (vtx2framex N curve 0) 0) r) n)
+    first-and-others N (size s) (torusPart n r N curve) (now (a .out)) (has .segment)
+    (length-ring (torusVertex (axesOf N curve (vtx2framex N curve 0) 0) r) n)
     (w .write-ring .ensures)
-    (torus-ring n r N curve 0 (w .before .before .around .ensures ∙ ap (λ (o : Order). ringAt o (x .axes-on .result) r) (has .order)) first)
+    (torus-ring n r N curve 0 (w .before .before .around .ensures
+    ∙ ap (λ (o : Order). ringAt o (x .axes-on .result) r) (has .order)) first)
     (lent-from (size s) (innerRings (a .sweep) curve dirs dirs) after (e .write-inner .ensures .1)
     ∙ ap (λ (v : List Float). overwrite (size s) v after) (torus-inner (a .sweep) curve has))
 

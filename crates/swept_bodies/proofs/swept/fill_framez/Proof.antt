@@ -67,7 +67,8 @@ loop-again c = let w = c .before .before in
     let u = z .before .before .point .ensures ∙ ap (pointAt dirs) (l .inv .1) in
     let v = z .before .point2 .ensures ∙ ap (λ (k : ℕ). pointAt dirs (k + 3)) (l .inv .1) in (
       all-written 3 (λ k. coordinates (betweenIn dirs k)) (now (a .out))
-          (one-more 3 (l .g - 1) 3 (λ k. coordinates (betweenIn dirs k)) (now (a .out)) (λ k h. refl) (l .inv .0) (omega arith) (w .put-point .ensures)
+          (one-more 3 (l .g - 1) 3 (λ k. coordinates (betweenIn dirs k)) (now (a .out)) (λ k h. refl) (l .inv .0)
+          (omega arith) (w .put-point .ensures)
           (ap coordinates (z .framez .ensures ∙ (λ j. betweenOf (u j) (v j))))) next,
       omega arith,
       omega arith,
@@ -90,7 +91,8 @@ returns c = let o = c .before .loop in
       between = λ g l h.
           let e : (g - 1) * 3 + 3 ≡ g * 3 = omega arith in
           ap (λ (t : List Float). pointAt t (g * 3)) whole
-          ∙ table-point 3 (a .count - 1) (betweenIn dirs) (now (a .out)) (g - 1) {q = g * 3} (omega (arith, s .pre)) (omega arith) (omega arith)
+          ∙ table-point 3 (a .count - 1) (betweenIn dirs) (now (a .out)) (g - 1) {q = g * 3} (omega (arith, s .pre))
+          (omega arith) (omega arith)
           ∙ ap (λ (k : ℕ). betweenOf (pointAt dirs ((g - 1) * 3)) (pointAt dirs k)) e;
     }
 

@@ -40,23 +40,31 @@ Inv-loop out₀ sweep curve directions ez turns order count n carried₀ place�
     × (length out ≡ length out₀)
 
 abbrev μ-loop : tie.MeasureT-loop
-μ-loop out₀ sweep curve directions ez turns order count n carried₀ place₀ k₀ g₀ out carried place k g = sweep .segments - g
+μ-loop out₀ sweep curve directions ez turns order count n carried₀ place₀ k₀ g₀ out carried place k g = sweep
+    .segments - g
 
 -- a turn's ring is within bounds
-room : (c : tie.In-loop Inv-loop μ-loop) → let a = c .before .before .before .before .before .before .before .before .args in
+room : (c : tie.In-loop Inv-loop μ-loop) → let a = c .before .before .before .before .before .before .before .before
+    .args in
     c .before .loop .place + a .sweep .divisions * 3 ≤ length (now (a .out))
 room c = let s = c .before .before .before .before .before .before .before .before in
     let l = c .before .loop in
-    omega (arith, row-within (l .g - 1) (s .args .sweep .segments - 1) (s .args .sweep .divisions * 3) (omega arith), s .pre .1 .1 .0)
+    omega (
+      arith,
+      row-within (l .g - 1) (s .args .sweep .segments - 1) (s .args .sweep .divisions * 3) (omega arith),
+      s .pre .1 .1 .0,
+    )
 
 cast-n : tie.Need-cast-n Inv-loop μ-loop
 cast-n c = search needs
 
 loop-holds : tie.Need-loop-holds Inv-loop μ-loop
-loop-holds c = let p = c .before .before .before .before .before .before .pre in (sym (overwrite-none _ _), p .0 .1, omega arith, omega arith, omega arith, p .0 .0, refl)
+loop-holds c = let p = c .before .before .before .before .before .before .pre in
+    (sym (overwrite-none _ _), p .0 .1, omega arith, omega arith, omega arith, p .0 .0, refl)
 
 point-requires : tie.Need-point-requires Inv-loop μ-loop
-point-requires c κs = let s = c .before .before .before .before .before .before .before .before in omega (arith, s .pre .1 .0 .0)
+point-requires c κs = let s = c .before .before .before .before .before .before .before .before in
+    omega (arith, s .pre .1 .0 .0)
 
 next-requires : tie.Need-next-requires Inv-loop μ-loop
 next-requires c κs = search needs
@@ -68,7 +76,8 @@ vertex-requires : tie.Need-vertex-requires Inv-loop μ-loop
 vertex-requires c κs = search needs
 
 point-requires-2 : tie.Need-point-requires-2 Inv-loop μ-loop
-point-requires-2 c κs = let s = c .before .before .before .before .before .before .before .before .before .before .before in omega (arith, s .pre .1 .0 .1)
+point-requires-2 c κs = let s = c .before .before .before .before .before .before .before .before .before .before
+    .before in omega (arith, s .pre .1 .0 .1)
 
 at-requires : tie.Need-at-requires Inv-loop μ-loop
 at-requires c κs = search needs
@@ -77,13 +86,16 @@ around-requires : tie.Need-around-requires Inv-loop μ-loop
 around-requires c κs = search needs
 
 write-ring-requires : tie.Need-write-ring-requires Inv-loop μ-loop
-write-ring-requires c κs = let i = c .before .before .before .before .before .before .before in (omega (arith, room i), i .before .before .before .before .before .before .before .before .pre .1 .1 .1)
+write-ring-requires c κs = let i = c .before .before .before .before .before .before .before in
+    (omega (arith, room i), i .before .before .before .before .before .before .before .before .pre .1 .1 .1)
 
 mul-place : tie.Need-mul-place Inv-loop μ-loop
-mul-place c = let s = c .before .before .before .before .before .before .before .before .before .before .before .before .before .before .before .before .before .before in omega (arith, s .pre .1 .1 .1 .most)
+mul-place c = let s = c .before .before .before .before .before .before .before .before .before .before .before .before
+    .before .before .before .before .before .before in omega (arith, s .pre .1 .1 .1 .most)
 
 add-place : tie.Need-add-place Inv-loop μ-loop
-add-place c = let i = c .before .before .before .before .before .before .before .before .before .before in omega (arith, room i)
+add-place c = let i = c .before .before .before .before .before .before .before .before .before .before in
+    omega (arith, room i)
 
 add-k : tie.Need-add-k Inv-loop μ-loop
 add-k c = let i = c .before .before .before .before .before .before .before .before .before .before in
@@ -113,13 +125,20 @@ loop-again c = let w = c .before .before in
     let along = n .before .point .ensures ∙ ap (pointAt dirs) (l .inv .3) in
     let on = carried-on dirs (l .g) (l .inv .4) (l .inv .1) along (n .next .ensures) in
     let axes : x .at .result ≡ axesIn curve dirs ez (l .g) = x .at .ensures
-    ∙ (λ j. axesAt (x .before .before .vertex .ensures j) (on j .frame) ((x .before .point2 .ensures ∙ ap (pointAt ez) (l .inv .3)) j)) in
+    ∙ (λ j. axesAt (x .before .before .vertex .ensures j) (on j .frame)
+    ((x .before .point2 .ensures ∙ ap (pointAt ez) (l .inv .3)) j)) in
     let ring = w .before .before .around .ensures ∙ ap (λ (b : Axes). ringAt (sweep .order) b (sweep .radius)) axes in (
       all-written 0 f (now (a .out)) (one-more 0 (l .g - 1) (sweep .divisions * 3) f (now (a .out))
-          (λ k h. length-ring (ringVertex (ringAt (sweep .order) (axesIn curve dirs ez (k + 1)) (sweep .radius))) (sweep .divisions)) (l .inv .0) (omega arith) (w .write-ring .ensures)
-          (ap (λ (k : Ring). ringOf (ringVertex k) (sweep .divisions)) ring ∙ ap (ringIn sweep curve dirs ez) (sym here))) (here ∙ next),
+          (λ k h. length-ring (ringVertex (ringAt (sweep .order) (axesIn curve dirs ez (k + 1)) (sweep .radius)))
+          (sweep .divisions)) (l .inv .0) (omega arith) (w .write-ring .ensures)
+          (ap (λ (k : Ring). ringOf (ringVertex k) (sweep .divisions)) ring
+          ∙ ap (ringIn sweep curve dirs ez) (sym here))) (here ∙ next),
       on ∙ ap (carriedIn dirs) next,
-      omega (arith, next-row (l .g - 1) (sweep .divisions * 3), ap (λ (k : ℕ). k * (sweep .divisions * 3)) (here ∙ next)),
+      omega (
+        arith,
+        next-row (l .g - 1) (sweep .divisions * 3),
+        ap (λ (k : ℕ). k * (sweep .divisions * 3)) (here ∙ next),
+      ),
       omega arith,
       omega arith,
       omega arith,

@@ -30,7 +30,8 @@ returns c =
     let first = both .before .before .product .ensures in
     let second = both .before .product2 .ensures in
     let sum = both .add .ensures ∙ (λ i. sumOf (first i) (second i)) in
-    c .add2 .ensures ∙ ap (sumOf (k .centre)) (c .before .scale .ensures ∙ ap (λ (p : Point). scaled p (k .radius)) sum)
+    c .add2 .ensures ∙ ap (sumOf (k .centre)) (c .before .scale .ensures
+    ∙ ap (λ (p : Point). scaled p (k .radius)) sum)
 
 pub sum-first-spec : {M : Type 1} → statement M
 sum-first-spec =

@@ -33,8 +33,10 @@ returns c =
     let radius = sum .before .before .before in
     let p = radius .before .args in
     let k = p .self in
-    let one = one-term (p .first) (p .a) (k .radius) (radius .thrice .ensures) (sum .before .before .product .ensures) (sum .before .product2 .ensures) in
-    let other = one-term (p .second) (p .b) (k .radius) (radius .thrice .ensures) (c .before .before .product3 .ensures) (c .before .product4 .ensures) in
+    let one = one-term (p .first) (p .a) (k .radius) (radius .thrice .ensures) (sum .before .before .product .ensures)
+    (sum .before .product2 .ensures) in
+    let other = one-term (p .second) (p .b) (k .radius) (radius .thrice .ensures)
+    (c .before .before .product3 .ensures) (c .before .product4 .ensures) in
     both-terms (k .centre) one (sum .add .ensures) other (c .add2 .ensures)
 
 pub two-terms-spec : {M : Type 1} → statement M

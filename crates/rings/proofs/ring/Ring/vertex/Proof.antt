@@ -26,7 +26,8 @@ sum-first-requires c κs = search needs
 
 -- a ring answers for the order that the match told
 told : (s : tie.Start) {order : Order} → s .args .self .order ≡ order
-    → inOrder order (s .args .self) (s .args .cos) (s .args .sin) ≡ inOrder (s .args .self .order) (s .args .self) (s .args .cos) (s .args .sin)
+    → inOrder order (s .args .self) (s .args .cos) (s .args .sin)
+    ≡ inOrder (s .args .self .order) (s .args .self) (s .args .cos) (s .args .sin)
 told s is = ap (λ (o : Order). inOrder o (s .args .self) (s .args .cos) (s .args .sin)) (sym is)
 
 returns : tie.Need-returns
