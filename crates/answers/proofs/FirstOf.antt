@@ -1,4 +1,5 @@
--- The first refusal of a list of tests: what an answer tells of the tests, and which answer the tests give. Assumes nothing.
+-- The first refusal of a list of tests: what an answer tells of the tests, and which answer the
+-- tests give. Assumes nothing.
 use mathlib.Core.Path.{_≡_, refl, sym, ap, _∙_, subst}
 use mathlib.Core.Bool.{Bool, true, false, not, cond}
 use mathlib.Core.List.{List, [], _∷_, _++_}

@@ -2,8 +2,8 @@ ghost use mathlib.Core.Path.{_≡_};
 ghost use Rattle.answers.specs.Answers.{numberIn, outcomeAnswer};
 use crate::refusal::Refusal;
 
-// The answer of a call that hands nothing back: of a clear, of an addition, and of the test whether
-// a body has room.
+// The answer of a call that hands nothing back: of a clear, of an addition, and of the test
+// whether a body has room.
 pub enum Outcome {
     Accepted,
     Refused(Refusal),

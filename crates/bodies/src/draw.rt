@@ -28,7 +28,8 @@ fn fill_table(description: Description, curve: &[f32], directions: &mut [f32])
     requires { ⌜ verticesPermitted description (length (now curve) / 3) ≡ true ⌝ }
     requires { ⌜ segmentCount description (length (now curve) / 3) * 3 ≤ length (now directions) ⌝ }
     ensures { λ _. let count = segmentCount description (length (now (curve .entry)) / 3) in
-        ⌜ now (directions .exit) ≡ overwrite 0 (directionsOf (curveChain description) count (now (curve .entry))) (now (directions .entry)) ⌝ }
+        ⌜ now (directions .exit)
+        ≡ overwrite 0 (directionsOf (curveChain description) count (now (curve .entry))) (now (directions .entry)) ⌝ }
 {
     let count = description.segment_count(curve.len() / 3);
     curve::fill_directions(description.chain(), count, curve, directions);
@@ -39,7 +40,8 @@ fn fill_table(description: Description, curve: &[f32], directions: &mut [f32])
 fn is_passed(work: Work, description: Description, vertices: usize, directions: &[f32]) -> bool
     requires { ⌜ verticesPermitted description vertices ≡ true ⌝ }
     ensures { λ r. ⌜ r ≡ isLenient work
-        || noFoldIn (curveChain description) (segmentCount description vertices) (cornersOf description vertices) (now (directions .entry)) ⌝ }
+        || noFoldIn (curveChain description) (segmentCount description vertices)
+        (cornersOf description vertices) (now (directions .entry)) ⌝ }
 {
     if work.is_lenient() {
         return true;
@@ -62,9 +64,11 @@ fn draw_with(
     requires { ⌜ ShapePermitted description (length (now curve) / 3) ⌝ }
     requires { ⌜ segmentCount description (length (now curve) / 3) * 3 ≤ length (now directions) ⌝ }
     requires { ⌜ segmentCount description (length (now curve) / 3) * 3 ≤ length (now ez) ⌝ }
-    requires { ⌜ (isWriting work ≡ true → 3 * vertexCount (topologyOf description (length (now curve) / 3)) ≤ length (now out)) ⌝ }
+    requires { ⌜ (isWriting work ≡ true
+        → 3 * vertexCount (topologyOf description (length (now curve) / 3)) ≤ length (now out)) ⌝ }
     ensures { λ r. ⌜ r ≡ isLenient work || curveFoldsPermitted description (now (curve .entry)) ⌝ }
-    ensures { λ r. ⌜ now (out .exit) ≡ placed (r && isWriting work) (verticesOf description (now (curve .entry))) (now (out .entry)) ⌝ }
+    ensures { λ r. ⌜ now (out .exit)
+        ≡ placed (r && isWriting work) (verticesOf description (now (curve .entry))) (now (out .entry)) ⌝ }
 {
     fill_table(description, curve, directions);
     if !is_passed(work, description, curve.len() / 3, directions) {
@@ -79,9 +83,11 @@ fn draw_with(
 // Does the same with scratch space of its own.
 pub(crate) fn draw(work: Work, description: Description, curve: &[f32], out: &mut [f32]) -> bool
     requires { ⌜ ShapePermitted description (length (now curve) / 3) ⌝ }
-    requires { ⌜ (isWriting work ≡ true → 3 * vertexCount (topologyOf description (length (now curve) / 3)) ≤ length (now out)) ⌝ }
+    requires { ⌜ (isWriting work ≡ true
+        → 3 * vertexCount (topologyOf description (length (now curve) / 3)) ≤ length (now out)) ⌝ }
     ensures { λ r. ⌜ r ≡ isLenient work || curveFoldsPermitted description (now (curve .entry)) ⌝ }
-    ensures { λ r. ⌜ now (out .exit) ≡ placed (r && isWriting work) (verticesOf description (now (curve .entry))) (now (out .entry)) ⌝ }
+    ensures { λ r. ⌜ now (out .exit)
+        ≡ placed (r && isWriting work) (verticesOf description (now (curve .entry))) (now (out .entry)) ⌝ }
 {
     if curve.len() <= FEW_DIRECTION_FLOATS {
         let mut directions = [0.0f32; FEW_DIRECTION_FLOATS];

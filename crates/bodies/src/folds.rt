@@ -22,8 +22,8 @@ pub fn is_without_fold(description: Description, curve: &[f32]) -> bool
     draw(Work::CheckFolds, description, curve, &mut nothing)
 }
 
-// Checks the curve of a body of a permitted shape for folds (13), writes the body's vertices to the
-// front of `out` if it passes, and answers whether it does.
+// Checks the curve of a body of a permitted shape for folds (13), writes the body's vertices to
+// the front of `out` if it passes, and answers whether it does.
 pub fn write_unless_folded(description: Description, curve: &[f32], out: &mut [f32]) -> bool
     requires { ⌜ ShapePermitted description (length (now curve) / 3) ⌝ }
     requires { ⌜ 3 * vertexCount (topologyOf description (length (now curve) / 3)) ≤ length (now out) ⌝ }

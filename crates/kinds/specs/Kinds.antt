@@ -67,8 +67,8 @@ pub record Summarises (t : Topology) (s : Summary) : Type 0 where
   pub triangles : s .triangles ≡ triangleCount t
 
 -- Whether a body's triangles can be written alone, its first vertex numbered `first`, into a
--- buffer of `room` numbers: it is permitted, its vertices do not "take their total above 2^28" (3),
--- and there is room for its triangles (4). A permitted body has fewer than 2^28 of these.
+-- buffer of `room` numbers: it is permitted, its vertices do not "take their total above 2^28"
+-- (3), and there is room for its triangles (4). A permitted body has fewer than 2^28 of these.
 unfoldable pub writable : Topology → ℕ → ℕ → Bool
 writable t first room = permitted t && (leb (first + vertexCount t) mostInAll && fits (triangleCount t) room)
 

@@ -27,8 +27,8 @@ use Rattle.ledger.proofs.Sizes.{length-table, length-set-vertices, leng
 use Rattle.ledger.proofs.Packing.{packed, Kept, packed-held, one, kept-next}
 
 module _ (s₀ : Buffers) where
-  -- Any list of additions, from any ledger whose set the buffers begin with. The calls and the ledger
-  -- go side by side.
+  -- Any list of additions, from any ledger whose set the buffers begin with. The calls and the
+  -- ledger go side by side.
   many : {L₀ : Ledger} (list : List Addition) (L : Ledger) (held : List Float) → Kept s₀ L₀ L held
       → additions list (packed s₀ L held)
       ≡ record {

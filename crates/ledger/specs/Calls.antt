@@ -1,5 +1,5 @@
--- A list of additions, call by call: "Each addition gets the buffers as the last call left them, and nobody else writes to them" (demand 3).
--- Definitions only.
+-- A list of additions, call by call: "Each addition gets the buffers as the last call left them,
+-- and nobody else writes to them" (demand 3). Definitions only.
 use mathlib.Core.List.{List, [], _∷_}
 use Rattle.answers.specs.Answers.{Answer}
 use Rattle.set_table.specs.Buffers.{Buffers, buffers}

@@ -21,7 +21,8 @@ pub record FromHeld (s : Buffers) (L : Ledger) (list : List Addition) : Type 0 w
   pub table : additions list s .left .table ≡ beginsWith (setTable (final (lengthsOf s) L list)) (s .table)
   pub vertices : additions list s .left .vertices
       ≡ beginsWith (setVertices (final (lengthsOf s) L list)) (zeroedBy23 (lengthsOf s) L list (s .vertices))
-  pub triangles : additions list s .left .triangles ≡ beginsWith (setTriangles (final (lengthsOf s) L list)) (s .triangles)
+  pub triangles : additions list s .left .triangles
+      ≡ beginsWith (setTriangles (final (lengthsOf s) L list)) (s .triangles)
   -- so they hold the ledger after the list, which is L with the accepted bodies at its end
   pub holds : Holds (additions list s .left) (final (lengthsOf s) L list)
   pub grown : Grown L (final (lengthsOf s) L list)
@@ -44,8 +45,8 @@ pub record AfterClear (s : Buffers) (list : List Addition) : Type 0 where
   pub bodies : EachAdded (ledgerOf s list)
   pub holds : Holds (clearAndAdd list s .left) (ledgerOf s list)
 
--- Any three buffers and any list of additions: from a ledger that the buffers hold, and after a clear
--- that is accepted, whatever they hold.
+-- Any three buffers and any list of additions: from a ledger that the buffers hold, and after a
+-- clear that is accepted, whatever they hold.
 pub record Demand3 : Type 0 where
   pub held : (s : Buffers) (L : Ledger) (list : List Addition) → Holds s L → FromHeld s L list
   pub clear : (s : Buffers) (list : List Addition) → clearAnswer (s .table) ≡ accepted tt → AfterClear s list

@@ -1,6 +1,6 @@
--- The file of the ledger's set, and the claim that it is what file word reads in buffers that hold the
--- ledger, among them those that a clear and any list of additions leave (document 01, 'The shared
--- set'). The theorem is `file-of-set` in proofs/File.antt. Definitions only.
+-- The file of the ledger's set, and the claim that it is what file word reads in buffers that hold
+-- the ledger, among them those that a clear and any list of additions leave (document 01, 'The
+-- shared set'). The theorem is `file-of-set` in proofs/File.antt. Definitions only.
 use mathlib.Core.Path.{_≡_}
 use mathlib.Core.List.{List}
 use Prim.Native.Nat.{ℕ}

@@ -1,5 +1,5 @@
--- When buffers hold a ledger: they begin with its set, which keeps to the limits of a set. Definitions
--- only.
+-- When buffers hold a ledger: they begin with its set, which keeps to the limits of a set.
+-- Definitions only.
 use mathlib.Core.Path.{_≡_}
 use mathlib.Core.List.{List, _++_}
 use Prim.Native.Nat.{ℕ, _*_, _≤_}

@@ -1,5 +1,6 @@
--- The ledger that demand 3 compares with: document 01, the last paragraphs of 'Frames and vertices'.
--- It is fed the buffers' lengths and the additions; it knows no table and no call. Definitions only.
+-- The ledger that demand 3 compares with: document 01, the last paragraphs of 'Frames and
+-- vertices'. It is fed the buffers' lengths and the additions; it knows no table and no call.
+-- Definitions only.
 use mathlib.Core.Bool.{cond}
 use mathlib.Core.List.{List, [], _∷_, _++_}
 use Prim.Native.Nat.{ℕ, _+_, _*_}
@@ -52,7 +53,8 @@ aloneOf a = bodyAlone (a .description) (a .curve)
 unfoldable pub replyTo : Lengths → Ledger → Addition → Answer (Unit {0})
 replyTo lent L a = firstOf (additionTests lent (totalsOf L) (a .description) (a .curve)) tt
 
--- "Refused, it leaves the ledger as it is. Otherwise its body alone goes to the end, with its kind and n."
+-- "Refused, it leaves the ledger as it is. Otherwise its body alone goes to the end, with its kind
+-- and n."
 abbrev pub entered : Ledger → Addition → Answer (Unit {0}) → Ledger
 entered L a (refused number) = L
 entered L a (accepted u) = then L (aloneOf a)
@@ -98,4 +100,5 @@ zeroedBy L a (accepted u) held = held
 
 abbrev pub zeroedBy23 : Lengths → Ledger → List Addition → List Float → List Float
 zeroedBy23 lent L [] held = held
-zeroedBy23 lent L (a ∷ rest) held = zeroedBy23 lent (entered L a (replyTo lent L a)) rest (zeroedBy L a (replyTo lent L a) held)
+zeroedBy23 lent L (a ∷ rest) held =
+    zeroedBy23 lent (entered L a (replyTo lent L a)) rest (zeroedBy L a (replyTo lent L a) held)

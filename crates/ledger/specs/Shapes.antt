@@ -1,5 +1,5 @@
--- What is true of every body of a set, wherever it came from, and what is true besides of a body that
--- was added. Definitions only.
+-- What is true of every body of a set, wherever it came from, and what is true besides of a body
+-- that was added. Definitions only.
 use mathlib.Core.Path.{_≡_}
 use mathlib.Core.Bool.{true}
 use mathlib.Core.List.{List}
@@ -36,9 +36,9 @@ divisionsWith (Capsule k) = k .divisions
 divisionsWith (Torus k) = k .divisions
 divisionsWith (ClosedCylinder k) = k .divisions
 
--- A body of a set whose first vertex is numbered `first`: permitted numbers give its kind, n, counts
--- and triangles, its floats are finite, and of its triangles as they stand in the set all is true
--- that demand 3 claims.
+-- A body of a set whose first vertex is numbered `first`: permitted numbers give its kind, n,
+-- counts and triangles, its floats are finite, and of its triangles as they stand in the set all
+-- is true that demand 3 claims.
 pub record Shaped (first : ℕ) (b : Body) : Type 0 where
   pub numbers : Topology
   pub allowed : permitted numbers ≡ true
@@ -51,16 +51,16 @@ pub record Shaped (first : ℕ) (b : Body) : Type 0 where
   -- not "a vertex coordinate worked out isn't finite" (23)
   pub finite : allFinite (b .vertices) ≡ true
   -- "no index lies outside it and no directed edge is used twice. Every edge of a capsule, closed
-  -- cylinder or torus has its reverse. A tube of n divisions has exactly 2n unmatched edges, a ribbon
-  -- of m segments exactly 2m + 2.": the fields of `Claims`
+  -- cylinder or torus has its reverse. A tube of n divisions has exactly 2n unmatched edges, a
+  -- ribbon of m segments exactly 2m + 2.": the fields of `Claims`
   pub claims : Claims numbers first (shift first (b .triangles))
   -- "A capsule of n divisions and m segments has exactly 2n(2L + m - 1) triangles, L being its
   -- longitude divisions."
   pub capsule : (n L m : ℕ) → numbers ≡ Capsule (record { divisions = n; longitudes = L; segments = m })
       → length (b .triangles) ≡ 2 * n * (2 * L + m - 1)
 
--- A body that was added: it is the body alone of a permitted description and curve, which also give
--- its numbers.
+-- A body that was added: it is the body alone of a permitted description and curve, which also
+-- give its numbers.
 pub record Added (first : ℕ) (b : Body) : Type 0 where
   pub description : Description
   pub curve : List Float

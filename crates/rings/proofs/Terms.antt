@@ -1,5 +1,5 @@
--- The terms of a vertex, as the calls make them: an axis by the radius by a cosine or a sine, and a
--- point with two such terms added in this order. Assumes nothing.
+-- The terms of a vertex, as the calls make them: an axis by the radius by a cosine or a sine, and
+-- a point with two such terms added in this order. Assumes nothing.
 use mathlib.Core.Path.{_≡_, _∙_}
 use lib.Ieee.{Float}
 use Rattle.vec3.specs.Points.{thrice, sumOf, productOf}

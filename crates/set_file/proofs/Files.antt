@@ -1,4 +1,5 @@
--- A word of a file that is made of several lists: the list that has it, and its place there. Assumes nothing.
+-- A word of a file that is made of several lists: the list that has it, and its place there.
+-- Assumes nothing.
 use mathlib.Core.Path.{_≡_, refl, sym, ap, _∙_}
 use mathlib.Core.List.{List, [], _∷_, _++_, map}
 use Prim.Native.Nat.{ℕ, suc, _+_, _*_, _-_, _≤_, _<_}

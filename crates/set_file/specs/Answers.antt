@@ -1,4 +1,5 @@
--- The answer of file word, by document 01's numbers ('Refused, and through whom'). Definitions only.
+-- The answer of file word, by document 01's numbers ('Refused, and through whom'). Definitions
+-- only.
 use Prim.Native.Nat.{ℕ}
 use Rattle.answers.specs.Answers.{Answer, refused, accepted, numberOf}
 use Rattle.set_file.specs.declared.word.FileWord.{FileWord}

@@ -53,4 +53,5 @@ wordIn file place = firstOf (endTests file place) (getD file place 0)
 abbrev pub fileWordOf : Buffers → ℕ → Answer ℕ
 fileWordOf s place =
     let file = fileIn (totalsIn (s .table)) s in
-    firstOf (tableTests (s .table) (length (s .vertices)) (length (s .triangles)) ++ endTests file place) (getD file place 0)
+    let tests = tableTests (s .table) (length (s .vertices)) (length (s .triangles)) in
+    firstOf (tests ++ endTests file place) (getD file place 0)

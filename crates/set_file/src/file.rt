@@ -69,7 +69,8 @@ fn body_word(
 // Word `place` of the file of the set. A damaged table (1) and a place at the end or past it (5)
 // are refused.
 pub fn file_word(table: &[u32], vertices: &[f32], triangles: &[u32], place: usize) -> FileWord
-    ensures { λ r. ⌜ wordAnswer r ≡ fileWordOf (buffers (now (table .entry)) (now (vertices .entry)) (now (triangles .entry))) place ⌝ }
+    ensures { λ r. let s = buffers (now (table .entry)) (now (vertices .entry)) (now (triangles .entry)) in
+        ⌜ wordAnswer r ≡ fileWordOf s place ⌝ }
 {
     match read(table, vertices.len(), triangles.len()) {
         Reading::Damaged => FileWord::Refused(Refusal::DamagedTable),

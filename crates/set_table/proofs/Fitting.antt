@@ -1,4 +1,5 @@
--- What 2, 3 and 4 let pass has room for its entry, its vertices and its triangles. Assumes nothing.
+-- What 2, 3 and 4 let pass has room for its entry, its vertices and its triangles. Assumes
+-- nothing.
 use mathlib.Core.Path.{_≡_}
 use mathlib.Core.Bool.{true, not}
 use Prim.Native.Nat.{ℕ, _+_, _*_, _^_, _≤_, _<_}

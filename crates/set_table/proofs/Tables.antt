@@ -28,7 +28,8 @@ head-bounds T h =
     let held = both-true (leb B mostBodies) (leb (tableWords B) (length T)) (some .1) in
     (leb-true 1 (length T) (some .0), leb-true B mostBodies (held .0), leb-true (tableWords B) (length T) (held .1))
 
--- What a table that is not damaged tells of its numbers; the other two buffers have v and r elements.
+-- What a table that is not damaged tells of its numbers; the other two buffers have v and r
+-- elements.
 pub record Reads (T : List ℕ) (v r : ℕ) : Type 0 where
   pub some : 1 ≤ length T
   pub few : bodiesIn T ≤ 64

@@ -1,4 +1,5 @@
--- "The table is u32 words .. Vertices are three f32 each, triangles three u32." (document 01, 'The shared set'). Definitions only.
+-- "The table is u32 words .. Vertices are three f32 each, triangles three u32." (document 01, 'The
+-- shared set'). Definitions only.
 use mathlib.Core.List.{List}
 use Prim.Native.Nat.{ℕ}
 use lib.Ieee.{Float}

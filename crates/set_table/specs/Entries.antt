@@ -1,6 +1,6 @@
 -- "six words a body: kind .., n .., first vertex, vertex count, first triangle, triangle count"
--- (document 01, 'The shared set'): an entry as a value, its words, and where they stand. Nothing else
--- says how many words an entry has, or which. Definitions only.
+-- (document 01, 'The shared set'): an entry as a value, its words, and where they stand. Nothing
+-- else says how many words an entry has, or which. Definitions only.
 use mathlib.Core.List.{List, [], _∷_, _++_}
 use Prim.Native.Nat.{ℕ, _+_, _*_}
 use lib.ListN.{length, getD}

@@ -1,6 +1,6 @@
--- "The table is u32 words: word 0 the body count B, then six words a body" (document 01, 'The shared
--- set'): reading it, refusal 1 (a damaged table), and the table after one entry more. Sums are of
--- whole numbers. Definitions only.
+-- "The table is u32 words: word 0 the body count B, then six words a body" (document 01, 'The
+-- shared set'): reading it, refusal 1 (a damaged table), and the table after one entry more. Sums
+-- are of whole numbers. Definitions only.
 use mathlib.Core.Bool.{Bool, _&&_}
 use mathlib.Core.List.{List, [], _∷_}
 use Prim.Native.Nat.{ℕ, _+_, _*_}
@@ -28,8 +28,8 @@ verticesBefore entry j = sumBelow j (λ i. entry i .vertices)
 abbrev pub trianglesBefore : (ℕ → Entry) → ℕ → ℕ
 trianglesBefore entry j = sumBelow j (λ i. entry i .triangles)
 
--- not "a kind outside 1 to 5; a first vertex or triangle other than the sum before it", these being
--- v and t
+-- not "a kind outside 1 to 5; a first vertex or triangle other than the sum before it", these
+-- being v and t
 unfoldable pub entrySound : Entry → ℕ → ℕ → Bool
 entrySound e v t = between 1 lastKind (e .kind) && (eqb (e .vertex) v && eqb (e .triangle) t)
 

@@ -31,8 +31,8 @@ fn is_head_sound(table: &[u32]) -> bool
     bodies <= MOST_BODIES && 1 + ENTRY_WORDS * bodies as usize <= table.len()
 }
 
-// Reads what the table says, or finds it damaged (1). `vertices` and `triangles` are the lengths of
-// the other two buffers. The sums of 64 counts of 32 bits do not wrap a usize.
+// Reads what the table says, or finds it damaged (1). `vertices` and `triangles` are the lengths
+// of the other two buffers. The sums of 64 counts of 32 bits do not wrap a usize.
 pub fn read(table: &[u32], vertices: usize, triangles: usize) -> Reading
     ensures { λ r. ⌜ readingAnswer r ≡ readingOf (now (table .entry)) vertices triangles ⌝ }
 {

@@ -1,4 +1,5 @@
--- A body of a permitted shape has as many vertices and triangles as the counts promise. Assumes nothing.
+-- A body of a permitted shape has as many vertices and triangles as the counts promise. Assumes
+-- nothing.
 use mathlib.Core.Path.{_≡_, ap, _∙_}
 use mathlib.Core.List.{List}
 use Prim.Native.Nat.{ℕ, _*_, _/_}

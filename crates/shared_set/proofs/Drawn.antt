@@ -1,5 +1,5 @@
--- A body that has room, written to its own stretch of the vertex buffer and scanned there: nothing of
--- it is cut, and the scan leaves what its answer says. Assumes nothing.
+-- A body that has room, written to its own stretch of the vertex buffer and scanned there: nothing
+-- of it is cut, and the scan leaves what its answer says. Assumes nothing.
 use mathlib.Core.Path.{_≡_, sym, ap, _∙_}
 use mathlib.Core.Bool.{Bool, true, false, cond}
 use mathlib.Core.List.{List}

@@ -1,6 +1,6 @@
--- What refuses an addition to a set of which the number of bodies and the totals are known (document
--- 01, 'Refused, and through whom'). No table is read here: the ledger asks the same. Definitions
--- only.
+-- What refuses an addition to a set of which the number of bodies and the totals are known
+-- (document 01, 'Refused, and through whom'). No table is read here: the ledger asks the same.
+-- Definitions only.
 use mathlib.Core.List.{List, [], _∷_, _++_}
 use lib.Ieee.{Float}
 use Rattle.kinds.specs.Kinds.{vertexCount, triangleCount}

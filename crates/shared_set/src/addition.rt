@@ -24,8 +24,8 @@ use set_table::Totals;
 use set_table::check_fit;
 use set_table::read;
 
-// Appends a body that has room: writes its vertices, unless the curve folds (13) or a vertex is not
-// finite (23), then its triangles, its entry and word 0.
+// Appends a body that has room: writes its vertices, unless the curve folds (13) or a vertex is
+// not finite (23), then its triangles, its entry and word 0.
 fn append_fitting(
     totals: Totals,
     body: Topology,
@@ -37,10 +37,12 @@ fn append_fitting(
 ) -> Outcome
     requires { ⌜ ShapePermitted description (length (now curve) / 3) ⌝ }
     requires { ⌜ body ≡ topologyOf description (length (now curve) / 3) ⌝ }
-    requires { ⌜ Fits (lengthsOf (buffers (now table) (now vertices) (now triangles))) totals (vertexCount body) (triangleCount body) ⌝ }
+    requires { let lent = lengthsOf (buffers (now table) (now vertices) (now triangles)) in
+        ⌜ Fits lent totals (vertexCount body) (triangleCount body) ⌝ }
     ensures { λ r. let c = now (curve .entry) in
         ⌜ after (outcomeAnswer r) (now (table .exit)) (now (vertices .exit)) (now (triangles .exit))
-        ≡ afterAnswer totals (bodyAlone description c) (buffers (now (table .entry)) (now (vertices .entry)) (now (triangles .entry)))
+        ≡ afterAnswer totals (bodyAlone description c)
+        (buffers (now (table .entry)) (now (vertices .entry)) (now (triangles .entry)))
         (firstOf (foldTests description c ++ finiteTests description c) tt) ⌝ }
 {
     match draw(totals, body, description, curve, vertices) {
@@ -75,7 +77,8 @@ fn append(
 ) -> Outcome
     requires { ⌜ totals .bodies ≤ mostBodies ⌝ }
     ensures { λ r. ⌜ after (outcomeAnswer r) (now (table .exit)) (now (vertices .exit)) (now (triangles .exit))
-        ≡ appended description (now (curve .entry)) totals (buffers (now (table .entry)) (now (vertices .entry)) (now (triangles .entry))) ⌝ }
+        ≡ appended description (now (curve .entry)) totals
+        (buffers (now (table .entry)) (now (vertices .entry)) (now (triangles .entry))) ⌝ }
 {
     match description.check_segments(curve) {
         Verdict::Refused(why) => Outcome::Refused(why),
@@ -106,7 +109,8 @@ pub fn add(
     triangles: &mut [u32],
 ) -> Outcome
     ensures { λ r. ⌜ after (outcomeAnswer r) (now (table .exit)) (now (vertices .exit)) (now (triangles .exit))
-        ≡ added description (now (curve .entry)) (buffers (now (table .entry)) (now (vertices .entry)) (now (triangles .entry))) ⌝ }
+        ≡ added description (now (curve .entry))
+        (buffers (now (table .entry)) (now (vertices .entry)) (now (triangles .entry))) ⌝ }
 {
     match read(table, vertices.len(), triangles.len()) {
         Reading::Damaged => Outcome::Refused(Refusal::DamagedTable),

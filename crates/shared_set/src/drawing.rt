@@ -40,8 +40,8 @@ fn zero_unless_finite(first: usize, body: Topology, vertices: &mut [f32]) -> boo
 }
 
 // Writes the vertices of a body that has room to its own stretch of the vertex buffer, which is
-// lent on from three times its first vertex. A fold (13) leaves the buffer as it was; a vertex that
-// is not finite (23) leaves the stretch at +0.
+// lent on from three times its first vertex. A fold (13) leaves the buffer as it was; a vertex
+// that is not finite (23) leaves the stretch at +0.
 pub(crate) fn draw(
     totals: Totals,
     body: Topology,
@@ -56,7 +56,8 @@ pub(crate) fn draw(
     ensures { λ r. let c = now (curve .entry) in
         ⌜ outcomeAnswer r ≡ firstOf (foldTests description c ++ finiteTests description c) tt ⌝ }
     ensures { λ r. ⌜ now (vertices .exit)
-        ≡ verticesAfter (outcomeAnswer r) totals (bodyAlone description (now (curve .entry))) (now (vertices .entry)) ⌝ }
+        ≡ verticesAfter (outcomeAnswer r) totals (bodyAlone description (now (curve .entry)))
+        (now (vertices .entry)) ⌝ }
 {
     let at = 3 * totals.vertices;
     if !bodies::write_unless_folded(description, curve, &mut vertices[at..]) {

@@ -28,8 +28,10 @@ pub(crate) fn place(
     requires { ⌜ permitted body ≡ true ⌝ }
     requires { ⌜ (totals .bodies < mostBodies) × (tableWords (totals .bodies + 1) ≤ length (now table)) ⌝ }
     requires { ⌜ totals .vertices + vertexCount body ≤ mostInAll ⌝ }
-    requires { ⌜ (totals .triangles + triangleCount body ≤ mostInAll) × (3 * (totals .triangles + triangleCount body) ≤ length (now triangles)) ⌝ }
-    ensures { λ _. let entry = entryWith totals (kindNumber description) (divisionsOf description) (vertexCount body) (triangleCount body) in
+    requires { ⌜ (totals .triangles + triangleCount body ≤ mostInAll)
+        × (3 * (totals .triangles + triangleCount body) ≤ length (now triangles)) ⌝ }
+    ensures { λ _. let entry = entryWith totals (kindNumber description) (divisionsOf description)
+        (vertexCount body) (triangleCount body) in
         ⌜ now (table .exit) ≡ withEntry (totals .bodies) entry (now (table .entry)) ⌝ }
     ensures { λ _. let list = flatten (shift (totals .vertices) (trianglesOf body)) in
         ⌜ now (triangles .exit) ≡ overwrite (3 * totals .triangles) list (now (triangles .entry)) ⌝ }

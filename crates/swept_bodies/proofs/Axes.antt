@@ -1,5 +1,5 @@
--- The axes that are made of the tables along a curve are those of the definitions: the cases of the
--- definitions decided. Assumes nothing.
+-- The axes that are made of the tables along a curve are those of the definitions: the cases of
+-- the definitions decided. Assumes nothing.
 use mathlib.Core.Path.{_≡_, refl, sym, ap, _∙_}
 use mathlib.Core.List.{List}
 use Prim.Native.Nat.{ℕ, zero, suc, _+_, _-_, _*_, _≤_, _<_}
@@ -80,8 +80,8 @@ module _ (m : ℕ) (c : List Float) {directions : List Float} (table : Direction
   unfolding axesAt axesOf vtx2framey
   axes-last = λ i. axesAt (vertexOf c m) (frame-last i) (ez-last i)
 
--- the axes on a closed curve, whose table of directions is also that of ez; at its first vertex, as
--- the calls make them
+-- the axes on a closed curve, whose table of directions is also that of ez; at its first vertex,
+-- as the calls make them
 module _ (N : ℕ) (c : List Float) {directions : List Float} (table : DirectionTable Closed N c directions) where
   pub axes-on-loop : (g : ℕ) → g < N → axesIn c directions directions g
       ≡ polyloop3.axesOf N c (polyloop3.vtx2framex N c g) g

@@ -1,4 +1,5 @@
--- A sound table leaves the answer to the file: its head has the word, or what is behind it. Assumes nothing.
+-- A sound table leaves the answer to the file: its head has the word, or what is behind it.
+-- Assumes nothing.
 use borrow.Author.Needs.{needs}
 use lib.ListN.{length}
 use Rattle.set_table.specs.Buffers.{buffers}

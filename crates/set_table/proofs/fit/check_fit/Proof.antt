@@ -1,4 +1,5 @@
--- The tests are tried in the order of their numbers, and each answers for its own. Assumes nothing.
+-- The tests are tried in the order of their numbers, and each answers for its own. Assumes
+-- nothing.
 use mathlib.Core.Path.{_≡_, ap, _∙_}
 use mathlib.Core.Bool.{true}
 use Prim.Native.Nat.{ℕ, _+_}

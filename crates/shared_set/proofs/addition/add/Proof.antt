@@ -1,4 +1,5 @@
--- A damaged table is refused first; any other leaves the answer to the tests after 1. Assumes nothing.
+-- A damaged table is refused first; any other leaves the answer to the tests after 1. Assumes
+-- nothing.
 use mathlib.Core.Path.{_≡_, refl, sym, ap, _∙_, subst}
 use mathlib.Core.List.{List}
 use Prim.Native.Nat.{_≤_}

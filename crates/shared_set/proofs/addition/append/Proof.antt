@@ -1,5 +1,5 @@
--- Each refusal is the first of the order that holds, and leaves the buffers as they were; where there
--- is room, 13 and 23 are left to be tried. Assumes nothing.
+-- Each refusal is the first of the order that holds, and leaves the buffers as they were; where
+-- there is room, 13 and 23 are left to be tried. Assumes nothing.
 use mathlib.Core.Path.{_≡_, sym, ap, _∙_}
 use mathlib.Core.List.{List}
 use Prim.Native.Nat.{ℕ}

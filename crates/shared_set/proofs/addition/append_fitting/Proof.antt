@@ -1,5 +1,5 @@
--- What is drawn is answered for by 13 and 23; an accepted body's entry and triangles are those of the
--- body alone. Assumes nothing.
+-- What is drawn is answered for by 13 and 23; an accepted body's entry and triangles are those of
+-- the body alone. Assumes nothing.
 use mathlib.Core.Path.{_≡_, sym, ap, _∙_}
 use mathlib.Core.List.{List}
 use Prim.Native.Nat.{_*_}

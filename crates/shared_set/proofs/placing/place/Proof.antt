@@ -1,5 +1,5 @@
--- The triangles go to the front of the part that is lent, and the entry has what was counted. Assumes
--- nothing.
+-- The triangles go to the front of the part that is lent, and the entry has what was counted.
+-- Assumes nothing.
 use mathlib.Core.Path.{_≡_, _∙_}
 use Prim.Native.Nat.{_*_}
 use native.Mathlib.Omega.{arith}
