@@ -33,8 +33,8 @@ impl Counts {
 impl Description {
     /// The counts of this body along a curve of `curve_vertices` vertices.
     ///
-    /// Refused are [`Refusal::CurveVertices`], [`Divisions`](Refusal::Divisions), [`Layers`](Refusal::Layers) and
-    /// [`Size`](Refusal::Size), in this order.
+    /// Refused are [`Refusal::CurveVertices`], [`Divisions`](Refusal::Divisions),
+    /// [`Layers`](Refusal::Layers) and [`Size`](Refusal::Size), in this order.
     ///
     /// ```
     /// use togbefulo::{Counts, Description, Refusal};
@@ -69,12 +69,13 @@ impl Description {
         answer(ffi::check(self.fields(), curve.as_flattened()))
     }
 
-    /// Writes the vertices of this body to the front of `out`, as many floats as [`Counts::floats`] says, and leaves
-    /// the rest.
+    /// Writes the vertices of this body to the front of `out`, as many floats as
+    /// [`Counts::floats`] says, and leaves the rest.
     ///
     /// Refused is, with nothing written, what [`counts`](Description::counts) refuses, and then
-    /// [`Refusal::NoVertices`] where `out` is too short. The curve's coordinates are not looked at: whoever has not
-    /// [checked](Description::check) them may get vertices that are not finite.
+    /// [`Refusal::NoVertices`] where `out` is too short. The curve's coordinates are not looked
+    /// at: whoever has not [checked](Description::check) them may get vertices that are not
+    /// finite.
     ///
     /// ```
     /// use togbefulo::Description;
@@ -96,8 +97,9 @@ impl Description {
     /// `out`, as many words as [`Counts::words`] says, and leaves the rest. A triangle is three
     /// vertex numbers, with `first` added to each.
     ///
-    /// Refused is, with nothing written, what [`counts`](Description::counts) refuses, then [`Refusal::NoVertices`]
-    /// where a vertex would have the number 2^28 or above, and [`Refusal::NoTriangles`] where `out` is too short.
+    /// Refused is, with nothing written, what [`counts`](Description::counts) refuses, then
+    /// [`Refusal::NoVertices`] where a vertex would have the number 2^28 or above, and
+    /// [`Refusal::NoTriangles`] where `out` is too short.
     ///
     /// ```
     /// use togbefulo::Description;
@@ -134,8 +136,8 @@ pub fn root(x: f32) -> f32 {
     ffi::root(x)
 }
 
-/// The cosine and the sine of k / n of a whole turn, with which the library draws rings; for k at or above n, or n
-/// above 2^24, those of no turn.
+/// The cosine and the sine of k / n of a whole turn, with which the library draws rings; for k at
+/// or above n, or n above 2^24, those of no turn.
 ///
 /// ```
 /// assert_eq!(togbefulo::turn(1, 2), (-1.0, -0.0));

@@ -1,6 +1,7 @@
 //! What a body is made of, beside its curve.
 
-/// A vertex of a curve: x, y, z. A curve of floats one behind the other is one of points by [`slice::as_chunks`].
+/// A vertex of a curve: x, y, z. A curve of floats one behind the other is one of points by
+/// [`slice::as_chunks`].
 pub type Point = [f32; 3];
 
 /// The five kinds, by the numbers that the table has.
@@ -56,7 +57,8 @@ pub enum Description {
     Capsule {
         /// Corners of the cross section, 3 to 256.
         divisions: u32,
-        /// Longitude divisions of each cap, 0 to 256; twice them and the curve's segments together at least 3.
+        /// Longitude divisions of each cap, 0 to 256; twice them and the curve's segments together
+        /// at least 3.
         longitudes: u32,
         /// Finite, above 0.
         radius: f32,
@@ -130,8 +132,8 @@ impl Description {
         }
     }
 
-    /// The record of a body, as [`crate::Set::build`] and the program `sweep` read it. They end their list at a record of
-    /// more than 512 curve vertices.
+    /// The record of a body, as [`crate::Set::build`] and the program `sweep` read it. They end
+    /// their list at a record of more than 512 curve vertices.
     ///
     /// ```
     /// use togbefulo::Description;

@@ -1,8 +1,9 @@
-//! The raw face: the functions of `libtogbefulo.a` as C has them, for whoever wants a call as it stands.
+//! The raw face: the functions of `libtogbefulo.a` as C has them, for whoever wants a call as it
+//! stands.
 //!
-//! `include/togbefulo.h` says what each argument and each number means. A slice is a pointer and a length in elements;
-//! where the length is 0 the pointer may be null. A buffer that a call writes shares no element with another one of the
-//! call. `counts` and `word` are never null.
+//! `include/togbefulo.h` says what each argument and each number means. A slice is a pointer and a
+//! length in elements; where the length is 0 the pointer may be null. A buffer that a call writes
+//! shares no element with another one of the call. `counts` and `word` are never null.
 //!
 //! This file has every `unsafe` of the crate: the crate's own functions call these through slices.
 
@@ -157,7 +158,8 @@ pub(crate) fn add(
     vertices: &mut [f32],
     triangles: &mut [u32],
 ) -> u32 {
-    // SAFETY: each pointer and length are those of one slice, and this call alone holds the three it writes.
+    // SAFETY: each pointer and length are those of one slice, and this call alone holds the three
+    // it writes.
     unsafe {
         togbefulo_add(
             body.kind,
@@ -201,7 +203,8 @@ pub(crate) fn file_word(
     place: usize,
     word: &mut [u32; 1],
 ) -> u32 {
-    // SAFETY: each pointer and length are those of one slice; `word` is one word, held by this call alone.
+    // SAFETY: each pointer and length are those of one slice; `word` is one word, held by this
+    // call alone.
     unsafe {
         togbefulo_file_word(
             table.as_ptr(),
@@ -223,7 +226,8 @@ pub(crate) fn build(
     vertices: &mut [f32],
     triangles: &mut [u32],
 ) -> u32 {
-    // SAFETY: each pointer and length are those of one slice, and this call alone holds the four it writes.
+    // SAFETY: each pointer and length are those of one slice, and this call alone holds the four
+    // it writes.
     unsafe {
         togbefulo_build(
             records.as_ptr(),

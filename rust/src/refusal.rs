@@ -16,7 +16,8 @@ use std::{
 #[derive(Clone, Copy, Debug, PartialEq, Eq, Hash, PartialOrd, Ord)]
 #[repr(u32)]
 pub enum Refusal {
-    /// 1: the table is empty, or its number of bodies, a kind, a first vertex or triangle, or a total is wrong.
+    /// 1: the table is empty, or its number of bodies, a kind, a first vertex or triangle, or a
+    /// total is wrong.
     DamagedTable = 1,
     /// 2: the set has 64 bodies, or its table no six words more.
     NoEntry = 2,
@@ -36,12 +37,13 @@ pub enum Refusal {
     Fold = 13,
     /// 20: the divisions are outside 3 to 256.
     Divisions = 20,
-    /// 21: the longitudes are above 256, or twice them and the curve's segments together below 3; or the layers are
-    /// outside 1 to 4096.
+    /// 21: the longitudes are above 256, or twice them and the curve's segments together below 3;
+    /// or the layers are outside 1 to 4096.
     Layers = 21,
     /// 22: a radius, width or length is not finite or not above 0.
     Size = 22,
-    /// 23: a coordinate that was worked out is not finite. Where the vertices would have been there is 0 now.
+    /// 23: a coordinate that was worked out is not finite. Where the vertices would have been
+    /// there is 0 now.
     NotFinite = 23,
 }
 
@@ -110,8 +112,9 @@ impl Display for Refusal {
 
 impl Error for Refusal {}
 
-/// What a number of the library says. A description has one of the five kinds, so that the number for an unknown kind
-/// is never met; nor is any other, as long as the library that was linked is the one of these declarations.
+/// What a number of the library says. A description has one of the five kinds, so that the number
+/// for an unknown kind is never met; nor is any other, as long as the library that was linked is
+/// the one of these declarations.
 pub(crate) fn answer(number: u32) -> Result<(), Refusal> {
     if number == 0 {
         return Ok(());

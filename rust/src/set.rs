@@ -36,12 +36,12 @@ pub struct Entry {
     pub triangles: u32,
 }
 
-/// A set of at most 64 bodies, side by side in three buffers that are lent to it: a table of contents of
-/// one word, and six a body ([`TABLE_WORDS`] for all 64), vertices of three floats each, triangles of three vertex
-/// numbers each.
+/// A set of at most 64 bodies, side by side in three buffers that are lent to it: a table of
+/// contents of one word, and six a body ([`TABLE_WORDS`] for all 64), vertices of three floats
+/// each, triangles of three vertex numbers each.
 ///
-/// It holds the buffers alone, so that its table is sound as long as it lives. When it goes, they hold the set, and
-/// [`Set::open`] takes it up again.
+/// It holds the buffers alone, so that its table is sound as long as it lives. When it goes, they
+/// hold the set, and [`Set::open`] takes it up again.
 ///
 /// ```
 /// use togbefulo::{Description, Refusal, Set, TABLE_WORDS};
@@ -71,8 +71,8 @@ pub struct Set<'a> {
 }
 
 impl<'a> Set<'a> {
-    /// An empty set in these buffers, whatever they hold; [`Refusal::DamagedTable`] for a table of length 0. Only word
-    /// 0 of the table is written.
+    /// An empty set in these buffers, whatever they hold; [`Refusal::DamagedTable`] for a table of
+    /// length 0. Only word 0 of the table is written.
     pub fn new(
         table: &'a mut [u32],
         vertices: &'a mut [f32],
@@ -86,9 +86,9 @@ impl<'a> Set<'a> {
         })
     }
 
-    /// The set that stands in these buffers, with nothing written; [`Refusal::DamagedTable`] where the table is empty,
-    /// or its number of bodies, a kind, a first vertex or triangle, or a total is wrong. Divisions and counts are not
-    /// looked at.
+    /// The set that stands in these buffers, with nothing written; [`Refusal::DamagedTable`] where
+    /// the table is empty, or its number of bodies, a kind, a first vertex or triangle, or a total
+    /// is wrong. Divisions and counts are not looked at.
     ///
     /// ```
     /// use togbefulo::{Description, Refusal, Set};
@@ -123,8 +123,8 @@ impl<'a> Set<'a> {
         answer(ffi::clear(self.table)).expect("the table has a word 0");
     }
 
-    /// Adds a body behind those of the set: its vertices, its triangles and its entry are written, and nothing else.
-    /// A closed cylinder's curve is empty.
+    /// Adds a body behind those of the set: its vertices, its triangles and its entry are written,
+    /// and nothing else. A closed cylinder's curve is empty.
     ///
     /// Refused are, in this order, what [`Description::check`] refuses, and [`Refusal::NoEntry`],
     /// [`NoVertices`](Refusal::NoVertices), [`NoTriangles`](Refusal::NoTriangles) and
@@ -139,11 +139,12 @@ impl<'a> Set<'a> {
         ))
     }
 
-    /// Clears the set and adds the bodies of a whole list of [records](Description::record), which ends where the
-    /// words do, at a record that they cut short, or at one of more than 512 curve vertices.
+    /// Clears the set and adds the bodies of a whole list of [records](Description::record), which
+    /// ends where the words do, at a record that they cut short, or at one of more than 512 curve
+    /// vertices.
     ///
-    /// What [`Set::add`] answers is handed back for each record of a kind from 1 to 5, in order; the others are
-    /// skipped.
+    /// What [`Set::add`] answers is handed back for each record of a kind from 1 to 5, in order;
+    /// the others are skipped.
     ///
     /// ```
     /// use togbefulo::{Description, Refusal, Set};
@@ -171,8 +172,8 @@ impl<'a> Set<'a> {
         answered.map(answer).collect()
     }
 
-    /// The word at this place of the set's file; [`Refusal::PastEnd`] at its end and past it. A NaN,
-    /// which only a set made or changed by hand can hold, reads as 7FC00000 (hexadecimal).
+    /// The word at this place of the set's file; [`Refusal::PastEnd`] at its end and past it. A
+    /// NaN, which only a set made or changed by hand can hold, reads as 7FC00000 (hexadecimal).
     pub fn file_word(&self, place: usize) -> Result<u32, Refusal> {
         let mut word = [0];
         answer(ffi::file_word(
@@ -185,8 +186,9 @@ impl<'a> Set<'a> {
         Ok(word[0])
     }
 
-    /// The words of the set's file: 1, the numbers of bodies, vertices and triangles, the entries, the bits of all
-    /// floats, all vertex numbers. They are written with the low byte first ([`u32::to_le_bytes`]).
+    /// The words of the set's file: 1, the numbers of bodies, vertices and triangles, the entries,
+    /// the bits of all floats, all vertex numbers. They are written with the low byte first
+    /// ([`u32::to_le_bytes`]).
     pub fn file(&self) -> impl Iterator<Item = u32> + '_ {
         (0..).map_while(|place| self.file_word(place).ok())
     }

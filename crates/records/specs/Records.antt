@@ -7,7 +7,8 @@ use mathlib.Core.List.{List, [], _∷_, _++_, map}
 use Prim.Native.Nat.{ℕ, zero, suc, _+_, _*_}
 use lib.Dec.{eqb, leb}
 use lib.Ieee.{Float, binary32, ofBits}
-use lib.ListN.{length, getD, take, drop}
+use lib.ListN.{length, getD, drop}
+use Rattle.laws.specs.Parts.{part}
 use Rattle.descriptions.specs.KindNumbers.{describedOf}
 use Rattle.descriptions.specs.declared.kind.Described.{Described}
 use Rattle.descriptions.specs.declared.kind.Described.the-variants.{Known, Unknown}
@@ -46,7 +47,7 @@ describedIn words =
     (ofBits binary32 (getD words 4 0)) (ofBits binary32 (getD words 5 0))
 
 abbrev pub curveIn : List ℕ → List Float
-curveIn words = map (ofBits binary32) (take (3 * verticesNamed words) (drop headWords words))
+curveIn words = map (ofBits binary32) (part headWords (3 * verticesNamed words) words)
 
 -- "skips .. kinds outside 1 to 5"
 abbrev pub additionOf : Described → List Float → List Addition

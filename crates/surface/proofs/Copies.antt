@@ -4,23 +4,19 @@ use mathlib.Core.List.{List, [], _∷_}
 use Prim.Native.Nat.{ℕ, _+_, _-_, _*_, _≤_, _<_}
 use native.Mathlib.Omega.{arith}
 use borrow.Rule.Slice.PartMut.{put-same}
-use lib.ListN.{length, getD, drop, length-map, length-take, length-drop}
-use lib.Seq.{getD-take, getD-drop}
+use lib.ListN.{length, getD, length-map}
 use Rattle.laws.specs.Overwrite.{overwrite, length-overwrite, overwrite-append, written-behind, getD-before}
 use Rattle.laws.specs.Lent.{lent-part, part-written}
 use Rattle.laws.specs.Blocks.{blocks, length-blocks, blocks-cong, blocks-split, map-blocks}
-use Rattle.laws.specs.Parts.{part}
+use Rattle.laws.specs.Parts.{part, length-part, getD-part}
 use Rattle.surface.specs.Raise.{raised, copyOf}
 
 -- ---- a part of the buffer
 
-pub length-part : (from size : ℕ) (l : List ℕ) → from + size ≤ length l → length (part from size l) ≡ size
-length-part from size l h = length-take size (drop from l) ∙ omega (arith, length-drop from l)
-
 -- number k of a part that lies before a write's place is read as it was
 pub read-before : (at from size k : ℕ) (new l : List ℕ) → k < size → from + k < at → getD (overwrite at new l) (from + k) 0 ≡ getD (part from size l) k 0
 read-before at from size k new l h b =
-    getD-before at new l (from + k) 0 b ∙ sym (getD-take size (drop from l) k 0 h ∙ getD-drop from l k 0)
+    getD-before at new l (from + k) 0 b ∙ sym (getD-part from size l k 0 h)
 
 -- written where it stands, it changes nothing
 pub part-kept : (from size : ℕ) (l : List ℕ) → from + size ≤ length l → l ≡ overwrite from (part from size l) l

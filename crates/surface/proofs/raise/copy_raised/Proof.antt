@@ -8,10 +8,10 @@ use lib.ListN.{length, getD, length-set, length-map}
 use Rattle.laws.specs.Places.{getD-map}
 use Rattle.laws.specs.Overwrite.{overwrite, overwrite-none, one-store}
 use Rattle.laws.specs.Blocks.{blocks, blocks-map, one-more, all-written}
-use Rattle.laws.specs.Parts.{part}
+use Rattle.laws.specs.Parts.{part, length-part}
 use Rattle.surface.specs.Raise.{raised}
 use Rattle.surface.proofs.Below.{below-at}
-use Rattle.surface.proofs.Copies.{length-part, read-before}
+use Rattle.surface.proofs.Copies.{read-before}
 use Rattle.surface.proofs.raise.copy_raised.Statement.{statement}
 use Rattle.surface.proofs.raise.copy_raised.Tie as tie
 

@@ -9,10 +9,10 @@ use denote.Ref.{now}
 use lib.ListN.{length}
 use Rattle.laws.specs.Overwrite.{overwrite}
 use Rattle.laws.specs.Blocks.{blocks, all-written}
-use Rattle.laws.specs.Parts.{part}
+use Rattle.laws.specs.Parts.{part, length-part}
 use Rattle.surface.specs.Raise.{raised, copyOf, Below}
 use Rattle.surface.proofs.Below.{below-blocks}
-use Rattle.surface.proofs.Copies.{length-part, part-kept, copy-none, next-copies, copies-after}
+use Rattle.surface.proofs.Copies.{part-kept, copy-none, next-copies, copies-after}
 use Rattle.surface.proofs.raise.repeat_raised.Statement.{statement}
 use Rattle.surface.proofs.raise.repeat_raised.Tie as tie
 
