@@ -22,8 +22,8 @@ use Rattle.swept_bodies.specs.Capsule.{capsulePart}
 use Rattle.swept_bodies.specs.Tables.{DirectionTable}
 
 -- What stands at curve vertex g: a ribbon's pair, a ring of a tube or a torus, of a capsule also
--- its poles and caps; of a closed cylinder, which has no curve, what stands at height g. An open
--- curve of N vertices has m = N − 1 segments.
+-- its poles and caps; of a closed cylinder, which has no curve, ring g, and the pole at an end. An
+-- open curve of N vertices has m = N − 1 segments, and m + 1 parts.
 abbrev pub partOf : Description → List Float → ℕ → List Float
 partOf (Ribbon w) c = ribbonPart w (verticesIn c - 1) c
 partOf (Tube n r) c = tubeRing n r (verticesIn c - 1) c
@@ -48,7 +48,7 @@ floatsFinite d c = allFinite (verticesOf d c)
 
 -- Whether the vertices can be written into a buffer of `room` numbers: whole vertices in the curve
 -- (10), a shape that 10, 20 and 21 do not refuse, and vertices that do not "exceed their buffer"
--- (of 3). What the floats are plays no part.
+-- (of 3); of a permitted shape they are never more than 2^28. What the floats are plays no part.
 unfoldable pub drawable : Description → List Float → ℕ → Bool
 drawable d c room =
     let N = verticesIn c in

@@ -33,8 +33,8 @@ cornerCosine chain count c k =
 unfoldable pub isFold : Float → Bool
 isFold c = lt (plus (ofBits binary32 0x3F80_0000) c) (ofBits binary32 0x3980_0000)
 
--- None of the first `corners` corners is a fold (13); which number of them 13 covers is said with
--- the descriptions. Corner k stands at vertex k + 1, on a loop the last one at vertex 0.
+-- None of the first `corners` corners is a fold (13); how many of them 13 covers is `cornersOf`
+-- (crate descriptions). Corner k stands at vertex k + 1, on a loop the last one at vertex 0.
 unfoldable pub foldsPermitted : Chain → ℕ → ℕ → List Float → Bool
 foldsPermitted chain count corners c = every corners (λ k. not (isFold (cornerCosine chain count c k)))
 

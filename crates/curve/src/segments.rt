@@ -33,8 +33,8 @@ pub fn vertex(curve: &[f32], k: usize) -> Point
     }
 }
 
-// The vertex at which segment k of `count` ends. The number of the segment after k, too. The
-// division is left to k past the last segment, which no loop reaches.
+// The vertex at which segment k of `count` ends, which is also the number of the segment after k.
+// The remainder is taken only for k past the last segment, which no loop reaches.
 pub(crate) fn end(chain: Chain, count: u16, k: u16) -> usize
     ensures { λ r. ⌜ r ≡ afterOf chain count k ⌝ }
 {

@@ -1,5 +1,5 @@
 -- What it tells of a body's numbers that 10, 20 and 21 do not refuse them. Assumes nothing.
-use mathlib.Core.Path.{_≡_, ap, _∙_}
+use mathlib.Core.Path.{_≡_}
 use mathlib.Core.Bool.{true, _&&_}
 use mathlib.Core.List.{List}
 use Prim.Native.Nat.{ℕ, _+_, _-_, _*_, _%_, _/_, _^_, _≤_}
@@ -16,7 +16,7 @@ use Rattle.kinds.specs.Kinds.{permitted, vertexCount, triangleCount, layersOf}
 use Rattle.kinds.specs.declared.topology.Topology.{Topology}
 use Rattle.kinds.specs.declared.topology.Topology.the-variants as topology
 use Rattle.kinds.proofs.Bounds.{Bounds, bounds, between-true}
-use Rattle.answers.specs.Answers.{AllPermitted, accepted}
+use Rattle.answers.specs.Answers.{AllPermitted}
 use Rattle.descriptions.specs.Descriptions.{curveChain, segmentsOf, segmentCount, topologyOf}
 use Rattle.descriptions.specs.KindNumbers.{divisionsOf}
 use Rattle.descriptions.specs.Refusals.{
@@ -32,16 +32,13 @@ use Rattle.descriptions.specs.Refusals.{
   mostDivisions,
   roundPermitted,
   lengthwisePermitted,
-  shapeTests,
   ShapePermitted,
-  shapeOf,
   segmentTests,
   checkedTests,
 }
 use Rattle.descriptions.specs.declared.description.Description.{Description}
 use Rattle.descriptions.specs.declared.description.Description.the-variants.{Ribbon, Tube, Capsule}
 use Rattle.descriptions.specs.declared.description.Description.the-variants.{Torus, ClosedCylinder}
-use Rattle.answers.proofs.FirstOf.{accepted-by}
 
 -- no curve has more than 4,096 vertices, no body more than 256 divisions
 pub vertices-most : (d : Description) (N : ℕ) → verticesPermitted d N ≡ true → N ≤ 4096
@@ -109,13 +106,6 @@ counts-most t h = most t (bounds t h) where
   most (topology.ClosedCylinder k) b =
       let p = product-most (k .divisions) (k .layers + 1) (b .0 .1) (omega arith) in
       (omega arith, omega arith)
-
--- what `shape` accepts
-pub accepted-permitted : (d : Description) (N : ℕ) {body : Topology}
-    → accepted body ≡ shapeOf d N → permitted body ≡ true
-accepted-permitted d N h =
-    let told = accepted-by (shapeTests d N) (topologyOf d N) h in
-    ap permitted (told .0) ∙ shape-permitted d N (told .1)
 
 -- a curve and a description that 10, 20 and 21 let pass: whole vertices, and a permitted shape
 curve-shape : (d : Description) (c : List Float) → curvePermitted d c ≡ true → roundPermitted d ≡ true

@@ -1,4 +1,4 @@
--- Every refusal that needs no table, in the order of their numbers, and the orders in which they
+-- The refusals 10 to 13 and 20 to 22, in the order of their numbers, and the orders in which they
 -- are tried. Document 01, 'Refused, and through whom'. Each is said by what is permitted; it
 -- refuses where that is false. Definitions only.
 use mathlib.Core.Bool.{Bool, true, _&&_}
@@ -9,7 +9,7 @@ use lib.Ieee.{Float, binary32, ofBits, lt}
 use lib.Ieee.Scale.{finite}
 use lib.ListN.{length}
 use Rattle.float32.specs.Scan.{allFinite}
-use Rattle.kinds.specs.Limits.{between, longitudesPermitted, layersPermitted}
+use Rattle.kinds.specs.Limits.{between, longitudesPermitted, layersPermitted, leastLoop, mostLoop, leastRound, mostRound}
 use Rattle.kinds.specs.Kinds.{vertexCount, triangleCount}
 use Rattle.kinds.specs.declared.topology.Topology.{Topology}
 use Rattle.curve.specs.Checks.{segmentsPermitted, foldsPermitted}
@@ -36,14 +36,14 @@ abbrev pub leastVertices : Description → ℕ
 leastVertices (Ribbon w) = leastOpen
 leastVertices (Tube n r) = leastOpen
 leastVertices (Capsule n L r) = leastOpen
-leastVertices (Torus n r) = 3
+leastVertices (Torus n r) = leastLoop
 leastVertices (ClosedCylinder n S centred r l) = 0
 
 abbrev pub mostVertices : Description → ℕ
 mostVertices (Ribbon w) = mostOpen
 mostVertices (Tube n r) = mostOpen
 mostVertices (Capsule n L r) = mostOpen
-mostVertices (Torus n r) = 4096
+mostVertices (Torus n r) = mostLoop
 mostVertices (ClosedCylinder n S centred r l) = 0
 
 abbrev pub verticesPermitted : Description → ℕ → Bool
@@ -72,17 +72,17 @@ curveFoldsPermitted d c =
 -- 20: "n outside 3 to 256 (not ribbon)", whose n is 0
 abbrev pub leastDivisions : Description → ℕ
 leastDivisions (Ribbon w) = 0
-leastDivisions (Tube n r) = 3
-leastDivisions (Capsule n L r) = 3
-leastDivisions (Torus n r) = 3
-leastDivisions (ClosedCylinder n S centred r l) = 3
+leastDivisions (Tube n r) = leastRound
+leastDivisions (Capsule n L r) = leastRound
+leastDivisions (Torus n r) = leastRound
+leastDivisions (ClosedCylinder n S centred r l) = leastRound
 
 abbrev pub mostDivisions : Description → ℕ
 mostDivisions (Ribbon w) = 0
-mostDivisions (Tube n r) = 256
-mostDivisions (Capsule n L r) = 256
-mostDivisions (Torus n r) = 256
-mostDivisions (ClosedCylinder n S centred r l) = 256
+mostDivisions (Tube n r) = mostRound
+mostDivisions (Capsule n L r) = mostRound
+mostDivisions (Torus n r) = mostRound
+mostDivisions (ClosedCylinder n S centred r l) = mostRound
 
 abbrev pub roundPermitted : Description → Bool
 roundPermitted d = between (leastDivisions d) (mostDivisions d) (divisionsOf d)
@@ -126,14 +126,14 @@ bodyCounts body = record { vertices = vertexCount body; triangles = triangleCoun
 abbrev pub countsOf : Description → ℕ → Answer Counts
 countsOf d N = firstOf (countsTests d N) (bodyCounts (topologyOf d N))
 
--- 22, 11 and 12, as they follow one another in the order below
+-- 22, 11 and 12, as they follow one another in `checkedTests`
 abbrev pub floatTests : Description → List Float → List Test
 floatTests d c = test 22 (sizesPermitted d) ∷ test 11 (allFinite c) ∷ test 12 (curveSegmentsPermitted d c) ∷ []
 
 abbrev pub floatsOf : Description → Topology → List Float → Answer Topology
 floatsOf d body c = firstOf (floatTests d c) body
 
--- that order without its end: all that is tried before a segment's direction is worked out
+-- `checkedTests` without its end: all that is tried before a segment's direction is worked out
 abbrev pub segmentTests : Description → List Float → List Test
 segmentTests d c =
     let N = length c / 3 in

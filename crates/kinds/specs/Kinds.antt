@@ -60,7 +60,7 @@ trianglesOf (Capsule k) = closedTriangles (k .divisions) (layersOf k)
 trianglesOf (Torus k) = torusTriangles (k .divisions) (k .vertices)
 trianglesOf (ClosedCylinder k) = closedTriangles (k .divisions) (k .layers)
 
--- What a body's summary says: the three of them.
+-- What a body's summary says: whether it is permitted, and its two counts.
 pub record Summarises (t : Topology) (s : Summary) : Type 0 where
   pub permission : s .permitted ≡ permitted t
   pub vertices : s .vertices ≡ vertexCount t

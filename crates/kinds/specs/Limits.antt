@@ -11,12 +11,24 @@ between least most x = leb least x && leb x most
 abbrev pub segmentCountPermitted : ℕ → Bool
 segmentCountPermitted m = between 1 4095 m
 
+abbrev pub leastLoop : ℕ
+leastLoop = 3
+
+abbrev pub mostLoop : ℕ
+mostLoop = 4096
+
 abbrev pub loopPermitted : ℕ → Bool
-loopPermitted N = between 3 4096 N
+loopPermitted N = between leastLoop mostLoop N
 
 -- 20: n from 3 to 256
+abbrev pub leastRound : ℕ
+leastRound = 3
+
+abbrev pub mostRound : ℕ
+mostRound = 256
+
 abbrev pub divisionsPermitted : ℕ → Bool
-divisionsPermitted n = between 3 256 n
+divisionsPermitted n = between leastRound mostRound n
 
 -- 21: L no more than 256 and 2L + m no less than 3; layers S from 1 to 4,096
 abbrev pub longitudesPermitted : ℕ → ℕ → Bool

@@ -48,13 +48,10 @@ module _ (s₀ : Buffers) where
       let answer = replyTo (lengthsOf s₀) L a in
       kept-final rest (entered L a answer) (zeroedBy L a answer held) (kept-next s₀ L a held answer kept refl)
 
--- a write at the front, and what begins with it
-front : {A : Type 0} (set held : List A) → length set ≤ length held → overwrite 0 set held ≡ beginsWith set held
-front set held h = overwrite-front set held h
-
+-- what was written at the front is what the list begins with
 begins-itself : {A : Type 0} (set held : List A) → length set ≤ length held → overwrite 0 set held ≡ beginsWith set (overwrite 0 set held)
 begins-itself set held h =
-    sym (overwrite-cover 0 set set held (omega arith)) ∙ front set (overwrite 0 set held) (omega (arith, length-overwrite 0 set held))
+    sym (overwrite-cover 0 set set held (omega arith)) ∙ overwrite-front set (overwrite 0 set held) (omega (arith, length-overwrite 0 set held))
 
 module _ (s : Buffers) {L₀ : Ledger} (L : Ledger) (held : List Float) (kept : Kept s L₀ L held) where
   table-room : length (setTable L) ≤ length (s .table)
@@ -96,9 +93,9 @@ module _ (s : Buffers) (L : Ledger) (list : List Addition) (kept : Kept s L L (s
       let same = ap (additions list) packs ∙ many s list L (s .vertices) kept in
       record {
         answers = ap (λ (r : Called). r .answers) same;
-        table = ap (λ (r : Called). r .left .table) same ∙ front (setTable last) (s .table) (table-room s last zeroed kept-last);
-        vertices = ap (λ (r : Called). r .left .vertices) same ∙ front (setVertices last) zeroed (vertex-room s last zeroed kept-last);
-        triangles = ap (λ (r : Called). r .left .triangles) same ∙ front (setTriangles last) (s .triangles) (triangle-room s last zeroed kept-last);
+        table = ap (λ (r : Called). r .left .table) same ∙ overwrite-front (setTable last) (s .table) (table-room s last zeroed kept-last);
+        vertices = ap (λ (r : Called). r .left .vertices) same ∙ overwrite-front (setVertices last) zeroed (vertex-room s last zeroed kept-last);
+        triangles = ap (λ (r : Called). r .left .triangles) same ∙ overwrite-front (setTriangles last) (s .triangles) (triangle-room s last zeroed kept-last);
         holds = subst (λ (r : Called). Holds (r .left) last) (sym same) (packed-holds s last zeroed kept-last);
         grown = kept-last .grown;
       }
@@ -111,9 +108,9 @@ grown-itself (then L b) = inl refl
 from-held : (s : Buffers) (L : Ledger) (list : List Addition) → Holds s L → FromHeld s L list
 from-held s L list h =
     let kept : Kept s L L (s .vertices) = record { limits = h .limits; each = h .each; grown = grown-itself L; sized = refl } in
-    let table = h .table ∙ sym (front (setTable L) (s .table) (table-room s L (s .vertices) kept)) in
-    let vertices = h .vertices ∙ sym (front (setVertices L) (s .vertices) (vertex-room s L (s .vertices) kept)) in
-    let triangles = h .triangles ∙ sym (front (setTriangles L) (s .triangles) (triangle-room s L (s .vertices) kept)) in
+    let table = h .table ∙ sym (overwrite-front (setTable L) (s .table) (table-room s L (s .vertices) kept)) in
+    let vertices = h .vertices ∙ sym (overwrite-front (setVertices L) (s .vertices) (vertex-room s L (s .vertices) kept)) in
+    let triangles = h .triangles ∙ sym (overwrite-front (setTriangles L) (s .triangles) (triangle-room s L (s .vertices) kept)) in
     from-packed s L list kept (λ j. buffers (table j) (vertices j) (triangles j))
 
 -- a cleared set holds the empty ledger

@@ -1,5 +1,5 @@
 -- The ledger that demand 3 compares with: document 01, the last paragraphs of 'Frames and
--- vertices'. It is fed the buffers' lengths and the additions; it knows no table and no call.
+-- vertices'. It is fed the buffers' lengths and the additions; it reads no table and makes no call.
 -- Definitions only.
 use mathlib.Core.Bool.{cond}
 use mathlib.Core.List.{List, [], _∷_, _++_}

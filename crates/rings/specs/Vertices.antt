@@ -54,7 +54,7 @@ capVertex Top a r L j = topVertex a r (turnOf j (4 * L))
 unfoldable pub torusVertex : Axes → Float → Direction → Point
 torusVertex a r d = sumOf (a .origin) (scaled (sumOf (scaled (a .ex) (d .cos)) (scaled (a .ey) (d .sin))) r)
 
--- Closed cylinder: "ring g: (r·C, low + (length/S)·g, r·Sn)", of any height, and of ring g.
+-- Closed cylinder: "ring g: (r·C, low + (length/S)·g, r·Sn)", at any height y, and at that of ring g.
 unfoldable pub levelAt : Float → Float → Direction → Point
 levelAt r y d = record { x = times r (d .cos); y = y; z = times r (d .sin) }
 

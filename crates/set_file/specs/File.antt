@@ -12,6 +12,7 @@ use Rattle.set_table.specs.Buffers.{Buffers}
 use Rattle.set_table.specs.declared.entries.Entry.{Entry}
 use Rattle.set_table.specs.declared.totals.Totals.{Totals}
 
+-- the file's first word
 abbrev pub edition : ℕ
 edition = 1
 

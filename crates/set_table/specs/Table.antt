@@ -21,7 +21,7 @@ use Rattle.set_table.specs.declared.entries.Entry.{Entry}
 abbrev pub bodiesIn : List ℕ → ℕ
 bodiesIn T = getD T 0 0
 
--- the vertices and the triangles of the first j of the entries that `entry` numbers
+-- the vertices and the triangles of the first j entries, `entry i` being entry i
 abbrev pub verticesBefore : (ℕ → Entry) → ℕ → ℕ
 verticesBefore entry j = sumBelow j (λ i. entry i .vertices)
 

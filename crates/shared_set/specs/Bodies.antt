@@ -6,7 +6,6 @@ use lib.Ieee.{Float}
 use lib.ListN.{length}
 use Rattle.surface.specs.Triangles.{Triangle}
 use Rattle.kinds.specs.Kinds.{trianglesOf}
-use Rattle.kinds.specs.declared.topology.Topology.{Topology}
 use Rattle.curve.specs.Segments.{verticesIn}
 use Rattle.descriptions.specs.Descriptions.{topologyOf}
 use Rattle.descriptions.specs.KindNumbers.{kindNumber, divisionsOf}
@@ -28,19 +27,15 @@ vertexCountIn b = verticesIn (b .vertices)
 abbrev pub triangleCountIn : Body → ℕ
 triangleCountIn b = length (b .triangles)
 
--- the body of a description and its numbers that has these vertices
-abbrev pub bodyWith : Description → Topology → List Float → Body
-bodyWith d body vertices = record {
-  kind = kindNumber d;
-  divisions = divisionsOf d;
-  vertices = vertices;
-  triangles = trianglesOf body;
-}
-
 -- "A body alone is the vertices and local triangles that this paper's definitions give its
 -- description and curve", "with its kind and n".
 abbrev pub bodyAlone : Description → List Float → Body
-bodyAlone d c = bodyWith d (topologyOf d (verticesIn c)) (verticesOf d c)
+bodyAlone d c = record {
+  kind = kindNumber d;
+  divisions = divisionsOf d;
+  vertices = verticesOf d c;
+  triangles = trianglesOf (topologyOf d (verticesIn c));
+}
 
 -- the entry of a body of this kind, n and counts that follows bodies of these totals
 abbrev pub entryWith : Totals → ℕ → ℕ → ℕ → ℕ → Entry

@@ -1,8 +1,8 @@
--- What a number that fits is, and which number fits. Assumes nothing.
+-- What a number that fits is. Assumes nothing.
 use mathlib.Core.Path.{_≡_}
-use mathlib.Core.Bool.{true, _&&_}
+use mathlib.Core.Bool.{true}
 use Prim.Native.Nat.{ℕ, _*_, _^_, _≤_}
-use borrow.Author.Tests.{le-leb, leb-true}
+use borrow.Author.Tests.{leb-true}
 use lib.Dec.{leb}
 use Rattle.laws.specs.Conjunction.{both-true}
 use Rattle.surface.specs.Limits.{fits}
@@ -12,7 +12,3 @@ unfolding fits
 fits-bounds total room h =
     let t = both-true (leb total (2 ^ 28)) (leb (3 * total) room) h in
     (leb-true total (2 ^ 28) (t .0), leb-true (3 * total) room (t .1))
-
-pub bounds-fit : (total room : ℕ) → total ≤ 2 ^ 28 → 3 * total ≤ room → fits total room ≡ true
-unfolding fits
-bounds-fit total room most held = λ j. le-leb total (2 ^ 28) most j && le-leb (3 * total) room held j

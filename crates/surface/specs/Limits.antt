@@ -9,7 +9,8 @@ use lib.Dec.{leb}
 abbrev pub mostInAll : ℕ
 mostInAll = 2 ^ 28
 
--- Not "a total above 2^28 or, times 3, above a buffer's length" (a damaged table, 1), and not
--- "exceed their buffer or take their total above 2^28" (3 for vertices, 4 for triangles).
+-- Not "a total above 2^28 or, times 3, above a buffer's length" (a damaged table, 1; the table's
+-- definition says its two halves apart), and not "exceed their buffer or take their total above
+-- 2^28" (3 for vertices, 4 for triangles).
 unfoldable pub fits : ℕ → ℕ → Bool
 fits total room = leb total mostInAll && leb (3 * total) room

@@ -95,7 +95,8 @@ impl Surface {
         grid
     }
 
-    // Whether every vertex is numbered below `MOST_IN_ALL` and the triangles have room.
+    // Whether every vertex is numbered below `MOST_IN_ALL`, and the triangles are no more than
+    // `MOST_IN_ALL` and have room.
     fn is_placeable(self, first: u32, room: usize) -> bool
         ensures { λ r. ⌜ r ≡ placeable self first room ⌝ }
     {
@@ -139,7 +140,8 @@ impl Surface {
     }
 
     // Writes the triangles as `put_triangles` does and answers true; or answers false and writes
-    // nothing, where a vertex would be numbered `MOST_IN_ALL` or above, or `out` is too short.
+    // nothing, where a vertex would be numbered `MOST_IN_ALL` or above, there are more triangles
+    // than `MOST_IN_ALL`, or `out` is too short.
     pub fn write_triangles(self, first: u32, out: &mut [u32]) -> bool
         ensures { λ r. ⌜ r ≡ placeable self first (length (now (out .entry))) ⌝ }
         ensures { λ r. ⌜ now (out .exit)

@@ -28,8 +28,8 @@ ringIn s c directions ez g =
 abbrev pub innerRings : Sweep → List Float → List Float → List Float → List Float
 innerRings s c directions ez = blocks (s .segments - 1) (λ k. ringIn s c directions ez (k + 1))
 
--- What the writers along a curve ask of its tables: the order of document 01's tube and capsule,
--- or of its torus, a segment at least, and the tables filled.
+-- What the writers along a curve ask of a sweep and its tables: the order of document 01's tube and
+-- capsule, or of its torus, a segment at least, and the tables filled.
 pub record OpenSweep (s : Sweep) (c directions ez turns : List Float) : Type 0 where
   pub order : s .order ≡ EyFirst
   pub segment : 1 ≤ s .segments
