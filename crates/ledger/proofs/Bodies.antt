@@ -66,7 +66,7 @@ shaped t b first h kind divisions triangles sized finite =
       whole = omega (arith, sized, counted);
       finite = finite;
       claims = subst (λ (l : List Triangle). Claims t first (shift first l)) (sym triangles) (permitted-claims t h .1 first);
-      capsule = λ n L m e. ap length triangles ∙ capsule-counted t h n L m e;
+      capsule = λ n L m e. omega (arith, ap length triangles, capsule-counted t h n L m e);
     }
 
 -- a body alone, of a description and a curve that nothing refuses before 2

@@ -1,10 +1,10 @@
 -- How long the ledger's set is. Assumes nothing.
 use mathlib.Core.Path.{_≡_, refl, ap, _∙_}
-use mathlib.Core.List.{[], _∷_}
+use mathlib.Core.List.{[], _∷_, _++_}
 use Prim.Native.Nat.{_+_, _*_}
 use native.Mathlib.Omega.{arith}
 use lib.ListN.{length, length-append}
-use Rattle.set_table.specs.Entries.{entryWords, tableWords, wordsOf, allWords, entryTotals}
+use Rattle.set_table.specs.Entries.{entryWords, tableWords, wordsOf, allWords, vertexTotal, entryTotals}
 use Rattle.set_table.specs.declared.totals.Totals.{Totals}
 use Rattle.set_table.proofs.Words.{all-words-next, vertex-total-next, triangle-total-next}
 use Rattle.shared_set.specs.Bodies.{Body, triangleCountIn, entryOf}
@@ -43,6 +43,7 @@ entries-totals (then L b) =
     let e = entryOf (totalsOf L) b in
     let before = entries-totals L in
     let count = length-append (entriesOf L) (e ∷ []) ∙ ap (λ (t : Totals). t .bodies + 1) before in
-    let vertices = vertex-total-next (entriesOf L) e ∙ ap (λ (t : Totals). t .vertices + e .vertices) before in
+    let vertices : vertexTotal (entriesOf L ++ (e ∷ [])) ≡ vertexSum (then L b) =
+    omega (arith, vertex-total-next (entriesOf L) e, ap (λ (t : Totals). t .vertices) before) in
     let triangles = triangle-total-next (entriesOf L) e ∙ ap (λ (t : Totals). t .triangles + e .triangles) before in
     λ i. record { bodies = count i; vertices = vertices i; triangles = triangles i }
