@@ -5,7 +5,7 @@ use crate::refusal::Refusal;
 
 // The answer of a call that hands nothing back: of a clear, of an addition, and of the test
 // whether a body has room.
-#[derive(Drop)]
+#[derive(Clone, Copy)]
 pub enum Outcome {
     Accepted,
     Refused(Refusal),

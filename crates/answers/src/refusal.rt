@@ -3,7 +3,7 @@ ghost use Rattle.answers.specs.Answers.{number_of};
 
 // Why a call is refused: every reason of document 01, 'Refused, and through whom', in the order of
 // their numbers.
-#[derive(Drop)]
+#[derive(Clone, Copy)]
 pub enum Refusal {
     DamagedTable,
     NoEntry,

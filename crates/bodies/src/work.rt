@@ -2,7 +2,7 @@ ghost use Rattle.std.specs.Prelude.{◌≡◌};
 ghost use Rattle.bodies.specs.Work.{isLenient, isWriting};
 
 // What is done with a curve once the directions of its segments are known.
-#[derive(Drop)]
+#[derive(Clone, Copy)]
 pub(crate) enum Work {
     CheckFolds,
     Write,

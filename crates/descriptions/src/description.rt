@@ -6,7 +6,7 @@ use kinds::{Capsule, ClosedCylinder, Ribbon, Topology, Torus, Tube};
 use surface::Chain;
 
 // One of six kinds, each with its sizes. The curve is handed over beside it.
-#[derive(Drop)]
+#[derive(Clone, Copy)]
 pub enum Description {
     Ribbon {
         width: f32,

@@ -7,7 +7,7 @@ use crate::description::Description;
 pub const LAST_KIND: u32 = 6;
 
 // The description that has a kind's number, or `Unknown` where no kind has it.
-#[derive(Drop)]
+#[derive(Clone, Copy)]
 pub enum Described {
     Known(Description),
     Unknown,

@@ -13,7 +13,7 @@ const MOST: u64 = 1365;
 const ELEMENTS: usize = 4095;
 
 // How many vertices and how many triangles.
-#[derive(Drop)]
+#[derive(Clone, Copy)]
 pub struct Counts {
     pub vertices: u32,
     pub triangles: u32,

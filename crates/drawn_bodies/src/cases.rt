@@ -8,7 +8,7 @@ use descriptions::Description;
 // eighths, the number of vertices of its curve and the seed from which the curve is drawn.
 // `steps` are the longitudes of a capsule and the layers of a closed cylinder. A field that a kind
 // does not have is ignored.
-#[derive(Drop)]
+#[derive(Clone, Copy)]
 pub struct Case {
     pub kind: u8,
     pub divisions: u8,
@@ -21,7 +21,7 @@ pub struct Case {
 }
 
 // A body between two others.
-#[derive(Drop)]
+#[derive(Clone, Copy)]
 pub struct Triple {
     pub first: Case,
     pub middle: Case,

@@ -11,7 +11,7 @@ use surface::{Chain, Ending, Split, Surface};
 
 // A capsule, by the divisions round it, the longitude divisions of each cap and the segments of
 // its curve.
-#[derive(Drop)]
+#[derive(Clone, Copy)]
 pub struct Capsule {
     pub divisions: u16,
     pub longitudes: u16,

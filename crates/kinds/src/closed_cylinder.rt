@@ -8,7 +8,7 @@ use crate::summary::Summary;
 use surface::{Chain, Ending, Split, Surface};
 
 // A closed cylinder, by the divisions round it and its layers.
-#[derive(Drop)]
+#[derive(Clone, Copy)]
 pub struct ClosedCylinder {
     pub divisions: u16,
     pub layers: u16,

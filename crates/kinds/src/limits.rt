@@ -19,7 +19,7 @@ pub fn is_between(least: u16, most: u16, x: usize) -> bool
 }
 
 // The limits of one number of a body.
-#[derive(Drop)]
+#[derive(Clone, Copy)]
 pub(crate) struct Range {
     pub least: u16,
     pub most: u16,

@@ -7,7 +7,7 @@ use crate::summary::Summary;
 use surface::{Chain, Ending, Split, Surface};
 
 // A ribbon, by the segments of its curve.
-#[derive(Drop)]
+#[derive(Clone, Copy)]
 pub struct Ribbon {
     pub segments: u16,
 }

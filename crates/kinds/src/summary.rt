@@ -1,6 +1,6 @@
 // What a body's numbers say of it: whether they are permitted, and how many vertices and triangles
 // it has.
-#[derive(Drop)]
+#[derive(Clone, Copy)]
 pub struct Summary {
     pub permitted: bool,
     pub vertices: u64,

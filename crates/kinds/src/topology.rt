@@ -14,7 +14,7 @@ use crate::tube::Tube;
 use surface::Surface;
 
 // A body by its numbers alone: all that its counts and its triangles need.
-#[derive(Drop)]
+#[derive(Clone, Copy)]
 pub enum Topology {
     Ribbon(Ribbon),
     Tube(Tube),

@@ -8,7 +8,7 @@ use crate::summary::Summary;
 use surface::{Chain, Ending, Split, Surface};
 
 // A torus, by the divisions round it and the vertices of its closed curve.
-#[derive(Drop)]
+#[derive(Clone, Copy)]
 pub struct Torus {
     pub divisions: u16,
     pub vertices: u16,

@@ -8,7 +8,7 @@ use crate::summary::Summary;
 use surface::{Chain, Ending, Split, Surface};
 
 // A tube, by the divisions round it and the segments of its curve.
-#[derive(Drop)]
+#[derive(Clone, Copy)]
 pub struct Tube {
     pub divisions: u16,
     pub segments: u16,

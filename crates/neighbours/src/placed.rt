@@ -12,7 +12,7 @@ use std::num::wrapping_add_u32;
 const ELEMENTS: usize = 4095;
 
 // What was compared of a body, and how many vertices and triangles the set has up to its end.
-#[derive(Drop)]
+#[derive(Clone, Copy)]
 struct Compared {
     tally: Tally,
     totals: Counts,

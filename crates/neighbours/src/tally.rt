@@ -2,7 +2,7 @@ use std::num::wrapping_add_u64;
 
 // How many elements of bodies and how many past them were compared, and how many of all these
 // differ.
-#[derive(Drop)]
+#[derive(Clone, Copy)]
 pub(crate) struct Tally {
     pub bodies: u64,
     pub past: u64,

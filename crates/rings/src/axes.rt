@@ -4,7 +4,7 @@ ghost use Rattle.rings.specs.Axes.{axesAt, betweenOf};
 use vec3::{Frame, Point};
 
 // A vertex of a curve and the axes there: ex beside the curve, ez along it, ey across both.
-#[derive(Drop)]
+#[derive(Clone, Copy)]
 pub struct Axes {
     pub origin: Point,
     pub ex: Point,

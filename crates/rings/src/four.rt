@@ -5,7 +5,7 @@ use crate::ring::Ring;
 use vec3::Point;
 
 // Four points held together: twelve numbers, which fill the processor's vector registers.
-#[derive(Drop)]
+#[derive(Clone, Copy)]
 pub struct Four {
     pub first: Point,
     pub second: Point,

@@ -7,7 +7,7 @@ use vec3::Point;
 // The order in which document 01 adds up the terms of a vertex. On the side of a tube or a capsule
 // and in a bottom cap ey comes first, in a top cap ex; on a torus the two are added up before the
 // radius comes in.
-#[derive(Drop)]
+#[derive(Clone, Copy)]
 pub enum Order {
     EyFirst,
     ExFirst,
@@ -15,7 +15,7 @@ pub enum Order {
 }
 
 // A ring of vertices.
-#[derive(Drop)]
+#[derive(Clone, Copy)]
 pub struct Ring {
     pub order: Order,
     pub centre: Point,

@@ -30,7 +30,7 @@ pub(crate) fn fill_frames(count: u16, directions: &[f32], frames: &mut [f32]) ->
 
 // The last frame against the first, where a loop closes: the cosine and the sine of the angle
 // between them, times their lengths.
-#[derive(Drop)]
+#[derive(Clone, Copy)]
 pub(crate) struct Ends {
     pub c0: f32,
     pub s0: f32,

@@ -1,7 +1,7 @@
 use answers::Refusal;
 
 // What file word answers.
-#[derive(Drop)]
+#[derive(Clone, Copy)]
 pub enum FileWord {
     Word(u32),
     Refused(Refusal),

@@ -11,7 +11,7 @@ pub(crate) const MOST_BODIES: u32 = 64;
 
 // A body's entry in the table: its kind and divisions, its first vertex and how many it has, its
 // first triangle and how many it has.
-#[derive(Drop)]
+#[derive(Clone, Copy)]
 pub struct Entry {
     pub kind: u32,
     pub divisions: u32,

@@ -1,6 +1,6 @@
 // What the entries of a table add up to: how many bodies there are, and how many vertices and
 // triangles they have together.
-#[derive(Drop)]
+#[derive(Clone, Copy)]
 pub struct Totals {
     pub bodies: u32,
     pub vertices: usize,
@@ -8,7 +8,7 @@ pub struct Totals {
 }
 
 // What the reading of a table finds.
-#[derive(Drop)]
+#[derive(Clone, Copy)]
 pub enum Reading {
     Damaged,
     Sound(Totals),

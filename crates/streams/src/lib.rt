@@ -9,7 +9,7 @@ ghost use Rattle.std.specs.Prelude.{length};
 pub use record::{Next, RECORD_BYTES, RECORD_WORDS, Stop, read_record};
 
 // How far a buffer was filled.
-#[derive(Drop)]
+#[derive(Clone, Copy)]
 pub enum Filled {
     // To its end.
     Full,

@@ -12,7 +12,7 @@ pub const RECORD_WORDS: usize = 7 + 3 * 512;
 pub const RECORD_BYTES: usize = 4 * RECORD_WORDS;
 
 // Why the reading of records stops.
-#[derive(Drop)]
+#[derive(Clone, Copy)]
 pub enum Stop {
     // The input ends where a record would begin.
     End,
@@ -25,7 +25,7 @@ pub enum Stop {
 }
 
 // What a read of the next record finds.
-#[derive(Drop)]
+#[derive(Clone, Copy)]
 pub enum Next {
     // A record of this number of words.
     Record(usize),

@@ -7,7 +7,7 @@ use crate::grid::{Chain, after};
 use crate::quads::put_triangle;
 
 // The two ends of a capped surface.
-#[derive(Drop)]
+#[derive(Clone, Copy)]
 pub enum End {
     Bottom,
     Top,

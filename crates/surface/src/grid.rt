@@ -11,7 +11,7 @@ use crate::raise::repeat_raised;
 use crate::whole::Surface;
 
 // A chain of points: open, with two ends, or closed, where the first point follows the last.
-#[derive(Drop)]
+#[derive(Clone, Copy)]
 pub enum Chain {
     Open,
     Closed,

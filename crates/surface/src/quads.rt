@@ -5,7 +5,7 @@ ghost use Rattle.surface.specs.Quads.{quadOf};
 
 // How a quad is cut into its two triangles, named after the bodies whose lists have it. Capsule
 // and closed cylinder are the capped ones.
-#[derive(Drop)]
+#[derive(Clone, Copy)]
 pub enum Split {
     Capped,
     Torus,

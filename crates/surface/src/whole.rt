@@ -11,7 +11,7 @@ use crate::limits::{MOST_IN_ALL, fits};
 use crate::quads::Split;
 
 // How a grid of quads ends along the curve: in two open rims, in itself, or in two caps.
-#[derive(Drop)]
+#[derive(Clone, Copy)]
 pub enum Ending {
     Open,
     Closed,
@@ -42,7 +42,7 @@ impl Ending {
 }
 
 // A grid of `rows` by `columns` quads, between two caps where it is capped.
-#[derive(Drop)]
+#[derive(Clone, Copy)]
 pub struct Surface {
     pub split: Split,
     pub ending: Ending,

@@ -12,7 +12,7 @@ use rings::{Axes, Order, Ring, framez};
 
 // What all rings along one curve share: the order in which the terms of a vertex are added up, how
 // many segments the curve has, and a ring's divisions and radius.
-#[derive(Drop)]
+#[derive(Clone, Copy)]
 pub struct Sweep {
     pub order: Order,
     pub segments: u16,

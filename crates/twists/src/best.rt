@@ -8,7 +8,7 @@ use crate::scores::{OCTANT, fill_scores};
 use crate::twist::{Twist, twist_at};
 
 // What the search found: the twist, and whether c0, s0 and all scores are finite.
-#[derive(Drop)]
+#[derive(Clone, Copy)]
 pub struct Found {
     pub twist: Twist,
     pub finite: bool,

@@ -5,7 +5,7 @@ ghost use Rattle.laws.specs.Every.{every};
 ghost use Rattle.twists.specs.Leaders.{ledBy};
 
 // The place and the score of the best twist so far.
-#[derive(Drop)]
+#[derive(Clone, Copy)]
 pub(crate) struct Leader {
     pub place: u16,
     pub score: f32,

@@ -4,7 +4,7 @@ ghost use Rattle.twists.specs.Twists.{signed, share_of, scoreOf, twistAt, twiste
 use vec3::{Direction, Frame, Point, turn};
 
 // The twist of k/4096 turn: `steps` is the magnitude of k, and `backward` says that k is negative.
-#[derive(Drop)]
+#[derive(Clone, Copy)]
 pub struct Twist {
     pub steps: u16,
     pub backward: bool,

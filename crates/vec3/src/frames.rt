@@ -4,7 +4,7 @@ ghost use Rattle.vec3.specs.Frames.{perpendicularTo, frameBeside, firstFrame, tr
 use crate::points::Point;
 
 // The frame at a vertex of a curve: the axis beside the segment.
-#[derive(Drop)]
+#[derive(Clone, Copy)]
 pub struct Frame {
     pub ex: Point,
 }

@@ -2,7 +2,7 @@ ghost use Rattle.std.specs.Prelude.{◌≡◌};
 ghost use Rattle.vec3.specs.Points.{thrice, sum_of, differenceOf, scaled, productOf, quotient_of, dotOf, cross_of, normOf, normalised};
 
 // A vertex, a segment's direction or a frame's axis.
-#[derive(Drop)]
+#[derive(Clone, Copy)]
 pub struct Point {
     pub x: f32,
     pub y: f32,

@@ -2,7 +2,7 @@ ghost use Rattle.std.specs.Prelude.{◌≡◌, ◌<◌, ◌≤◌};
 ghost use Rattle.vec3.specs.Turns.{part_of, sineOf, cosineOf, withinOctant, inOctant, directionOf, turn_of};
 
 // The cosine and the sine of an angle.
-#[derive(Drop)]
+#[derive(Clone, Copy)]
 pub struct Direction {
     pub cos: f32,
     pub sin: f32,
