@@ -1,4 +1,6 @@
 // What a call answers: accepted, or refused for one of document 01's reasons.
+#![tactic(auto)]
+
 mod outcome;
 mod refusal;
 

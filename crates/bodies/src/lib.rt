@@ -1,4 +1,6 @@
 // The vertices of one body, from its description and its curve, and the check of both.
+#![tactic(auto)]
+
 mod draw;
 mod folds;
 mod vertices;

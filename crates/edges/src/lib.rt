@@ -1,1 +1,2 @@
 // Theorems on the directed edges of triangle lists: see specs/ and proofs/.
+#![tactic(auto)]

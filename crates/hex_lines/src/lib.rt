@@ -1,5 +1,7 @@
 // Prints hexadecimal words, and turns floats into words and back, for the programs whose output is
 // compared. What is printed is compared and not proved, so no function here says anything of it.
+#![tactic(auto)]
+
 mod words;
 
 ghost use Rattle.std.specs.Prelude.{◌<◌};

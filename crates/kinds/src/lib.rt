@@ -1,5 +1,7 @@
 // The kinds of body by their numbers: limits, counts and triangle lists. A seamless torus has a
 // torus's.
+#![tactic(auto)]
+
 mod capsule;
 mod closed_cylinder;
 mod limits;

@@ -1,4 +1,6 @@
 // 32-bit words as bytes, the lowest first, and back.
+#![tactic(auto)]
+
 ghost use Rattle.std.specs.Prelude.{◌≡◌, ◌+◌, ◌/◌, ◌≤◌, leb, length};
 ghost use Rattle.laws.specs.Overwrite.{overwrite, placed};
 ghost use Rattle.little_endian.specs.Words.{word_of, words_in, bytes_of, bytesIn};

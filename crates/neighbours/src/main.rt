@@ -4,6 +4,8 @@
 // kinds, then bodies drawn by a small generator, and a line is printed for each of the two. A third
 // line is of words of which two are wrong, so that a comparison which finds nothing shows. What it
 // must print was made outside Rattle, by tests/src/bin/neighbours.rs from document 01's counts.
+#![tactic(auto)]
+
 mod compare;
 mod loading;
 mod markers;

@@ -1,4 +1,6 @@
 // Records of words, as the program `sweep` reads them, and the bodies that they ask for.
+#![tactic(auto)]
+
 mod building;
 mod first;
 mod head;

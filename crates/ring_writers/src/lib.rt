@@ -1,5 +1,7 @@
 // Writes rings of vertices to a lent buffer: single rings, the two ends of a capsule, and the
 // closed cylinder, which needs no curve.
+#![tactic(auto)]
+
 mod caps;
 mod points;
 mod ring_writer;

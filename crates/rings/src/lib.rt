@@ -1,5 +1,7 @@
 // Rings of vertices as values: the axes that a ring lies in, the rings of a cap, and a ring's
 // vertex in a direction.
+#![tactic(auto)]
+
 mod axes;
 mod caps;
 mod four;

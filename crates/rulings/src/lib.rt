@@ -1,1 +1,2 @@
 // The rulings of document 01 as one proved list: see specs/.
+#![tactic(auto)]

@@ -1,5 +1,7 @@
 // Writes the vertices of a torus without a seam to a lent buffer: the frames that are carried
 // round its loop are turned, each by its share of the twist at which they come back.
+#![tactic(auto)]
+
 mod frames;
 mod polyloop3;
 

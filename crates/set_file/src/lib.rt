@@ -1,4 +1,6 @@
 // The file of a shared set, word by word.
+#![tactic(auto)]
+
 mod file;
 mod word;
 

@@ -1,5 +1,7 @@
 // The table of contents of a shared set: its entries, whether it is damaged, and whether one body
 // more has room.
+#![tactic(auto)]
+
 mod entries;
 mod fit;
 mod table;

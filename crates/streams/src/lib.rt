@@ -1,6 +1,8 @@
 // Reads a stream and writes one, over the C library's read and write: bytes, until a buffer is
 // full or empty, and records. A call that a signal interrupts is made again. If a call fails,
 // `os::errno` says why until the next one.
+#![tactic(auto)]
+
 mod record;
 
 ghost use Rattle.streams.specs.Filled.{FilledIn};

@@ -1,4 +1,6 @@
 // Grids of quads, with or without caps: the triangle lists that every kind of body is made of.
+#![tactic(auto)]
+
 mod caps;
 mod grid;
 mod limits;

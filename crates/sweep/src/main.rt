@@ -7,6 +7,8 @@
 // Another says so if the set could not be written whole. A read or a write that a signal
 // interrupts is made again. The exit status is 0 in all these cases, since the language has no
 // other; a pipe that nobody reads any more ends the program by the system's signal.
+#![tactic(auto)]
+
 mod input;
 mod output;
 mod report;

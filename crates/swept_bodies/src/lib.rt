@@ -1,5 +1,7 @@
 // Writes the vertices of a body that is swept along a curve to a lent buffer, each kind by a
 // function that has its name in del-msh.
+#![tactic(auto)]
+
 mod polyline3;
 mod polyloop3;
 mod swept;

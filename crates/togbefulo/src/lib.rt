@@ -1,4 +1,6 @@
 // The proved core as C functions, for other languages to link.
+#![tactic(auto)]
+
 mod alone;
 mod arithmetic;
 mod lists;

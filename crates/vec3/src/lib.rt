@@ -1,4 +1,6 @@
 // Points, directions and frames of `f32`, each operation rounded once, in the order written.
+#![tactic(auto)]
+
 mod frames;
 mod points;
 mod turns;

@@ -3,6 +3,8 @@
 // Rattle, by tests/src/bin/worked_additions.rs from the adapted functions of del-msh and the
 // readings of document 01. That output is compared, so the contracts here serve only to prove the
 // program safe and ending.
+#![tactic(auto)]
+
 mod digest;
 mod garbage;
 mod replay;

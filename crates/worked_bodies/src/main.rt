@@ -1,6 +1,8 @@
 // Prints the worked bodies: for each case a head line with the kind's name, the sizes and both
 // counts, then a line for each vertex, in hexadecimal. What it must print was made outside
 // Rattle, by tests/src/bin/worked_bodies.rs from the adapted functions of del-msh.
+#![tactic(auto)]
+
 mod cases;
 
 ghost use Rattle.std.specs.Prelude.{◌≡◌, ◌≤◌, length, take};

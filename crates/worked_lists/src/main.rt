@@ -1,6 +1,8 @@
 // Prints the worked triangle lists: for each case a head line with the kind's name, the sizes,
 // the first vertex and both counts, then a line for each triangle, in hexadecimal. What it must
 // print was made outside Rattle, by tests/src/bin/worked_lists.rs.
+#![tactic(auto)]
+
 mod cases;
 
 ghost use Rattle.io.specs.Counts.{IsPrefixLen};

@@ -1,6 +1,8 @@
 // Prints the worked values of root, turn, first frame and transport step: a line for each case,
 // with its words and the words of its result in hexadecimal. What it must print was made outside
 // Rattle, by tests/src/bin/worked_values.rs.
+#![tactic(auto)]
+
 mod cases;
 
 ghost use Rattle.std.specs.Prelude.{◌<◌};

@@ -1,0 +1,23 @@
+-- `curve::are_segments_permitted` meets its contract: the loop passes a segment only where it is
+-- permitted. Assumes nothing.
+use mathlib.Core.Path.{◌≡◌, refl, sym, ap, ◌∙◌}
+use mathlib.Core.Bool.{Bool, true, not}
+use mathlib.Core.List.{List}
+use Prim.Native.Nat.{ℕ, ◌-◌, ◌≤◌}
+use native.Mathlib.Omega.{arith}
+use borrow.Author.Rules.{rules}
+use lib.Ieee.{Float}
+use Rattle.laws.specs.Every.{every, every_more, every-fails}
+use Rattle.surface.specs.declared.grid.Chain.{Chain}
+use Rattle.curve.specs.Segments.{segmentOf}
+use Rattle.curve.specs.Checks.{segmentRefused, segmentsPermitted}
+use Rattle.curve.proofs.checks.are_segments_permitted.Given as goal
+
+abbrev pub permittedAt : Chain → ℕ → List Float → ℕ → Bool
+permittedAt chain count curve k = not (segmentRefused (segmentOf chain count curve k))
+
+abbrev pub invariant-loop-k : goal.invariant-loop-k
+invariant-loop-k l = (l.k ≤ l.count) × (every l.k (permittedAt l.chain l.count l.curve) ≡ true)
+
+abbrev pub decreases-loop-k : goal.decreases-loop-k
+decreases-loop-k l = l.count - l.k

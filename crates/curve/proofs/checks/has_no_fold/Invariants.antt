@@ -1,0 +1,22 @@
+-- `curve::has_no_fold` meets its contract: the loop passes a corner only where it is no fold.
+-- Assumes nothing.
+use mathlib.Core.Path.{◌≡◌, refl, sym, ap, ◌∙◌}
+use mathlib.Core.Bool.{Bool, true, not}
+use mathlib.Core.List.{List}
+use Prim.Native.Nat.{ℕ, ◌-◌, ◌≤◌}
+use native.Mathlib.Omega.{arith}
+use borrow.Author.Rules.{rules}
+use lib.Ieee.{Float}
+use Rattle.laws.specs.Every.{every, every_more, every-fails}
+use Rattle.surface.specs.declared.grid.Chain.{Chain}
+use Rattle.curve.specs.Checks.{isFold, cosineIn, noFoldIn}
+use Rattle.curve.proofs.checks.has_no_fold.Given as goal
+
+abbrev pub permittedAt : Chain → ℕ → List Float → ℕ → Bool
+permittedAt chain count table k = not (isFold (cosineIn chain count table k))
+
+abbrev pub invariant-loop-corner : goal.invariant-loop-corner
+invariant-loop-corner l = (l.corner ≤ l.corners) × (every l.corner (permittedAt l.chain l.count l.directions) ≡ true)
+
+abbrev pub decreases-loop-corner : goal.decreases-loop-corner
+decreases-loop-corner l = l.corners - l.corner

@@ -1,0 +1,28 @@
+-- Each turn of the loop writes one direction after the last. Assumes nothing.
+use mathlib.Core.Path.{◌≡◌, refl, sym, ap}
+use mathlib.Core.List.{List}
+use Prim.Native.Nat.{ℕ, ◌*◌, ◌-◌, ◌≤◌}
+use native.Mathlib.Omega.{arith}
+use borrow.Author.Rules.{rules}
+use lib.Ieee.{Float}
+use lib.ListN.{length, length-set}
+use Rattle.laws.specs.Overwrite.{overwrite, overwrite-none, three-stores}
+use Rattle.laws.specs.Blocks.{blocks, one_more, all-written}
+use Rattle.surface.specs.declared.grid.Chain.{Chain}
+use Rattle.vec3.specs.Points.{coordinates}
+use Rattle.curve.specs.Segments.{segmentDirection, directionsOf}
+use Rattle.curve.proofs.directions.fill_directions.Given as goal
+
+-- the coordinates of direction k
+abbrev pub directionAt : Chain → ℕ → List Float → ℕ → List Float
+directionAt chain count curve k = coordinates (segmentDirection chain count curve k)
+
+abbrev pub invariant-loop-k : goal.invariant-loop-k
+invariant-loop-k l =
+    (l.out ≡ overwrite 0 (blocks l.k (directionAt l.chain l.count l.curve)) l.initial.out)
+    × (l.at ≡ l.k * 3)
+    × (l.k ≤ l.count)
+    × (length l.out ≡ length l.initial.out)
+
+abbrev pub decreases-loop-k : goal.decreases-loop-k
+decreases-loop-k l = l.count - l.k

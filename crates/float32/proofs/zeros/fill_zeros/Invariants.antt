@@ -1,0 +1,22 @@
+-- `float32::fill_zeros` meets its contract: each turn stores one +0 behind the last. Assumes nothing.
+use mathlib.Core.Path.{◌≡◌, refl, sym, ◌∙◌}
+use mathlib.Core.List.{List, [], ◌∷◌}
+use Prim.Native.Nat.{ℕ, ◌-◌, ◌≤◌}
+use native.Mathlib.Omega.{arith}
+use lib.Ieee.{Float, binary32, of_bits}
+use lib.ListN.{length, length-set}
+use Rattle.laws.specs.Overwrite.{overwrite, overwrite-none, one_store}
+use Rattle.laws.specs.Overlaps.{overwrite-all}
+use Rattle.laws.specs.Blocks.{blocks, one_more, all-written}
+use Rattle.float32.specs.Zeros.{zeros}
+use Rattle.float32.proofs.ZeroCounts.{length-zeros}
+use Rattle.float32.proofs.zeros.fill_zeros.Given as goal
+
+abbrev pub zero : ℕ → List Float
+zero k = of_bits binary32 0 ∷ []
+
+abbrev pub invariant-loop-i : goal.invariant-loop-i
+invariant-loop-i l = (length l.out ≡ length l.initial.out) × (l.i ≤ length l.initial.out) × (l.out ≡ overwrite 0 (blocks l.i zero) l.initial.out)
+
+abbrev pub decreases-loop-i : goal.decreases-loop-i
+decreases-loop-i l = length l.initial.out - l.i

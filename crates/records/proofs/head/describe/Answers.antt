@@ -1,0 +1,16 @@
+-- `of_kind` gets the words of the head, two of them as floats. Assumes nothing.
+use mathlib.Core.Path.{◌∙◌}
+use mathlib.Core.Bool.{not}
+use borrow.Author.Rules.{rules}
+use lib.Dec.{eqb}
+use lib.ListN.{get_or}
+use Rattle.descriptions.specs.KindNumbers.{describedOf}
+use Rattle.records.proofs.head.describe.Goals as goal
+
+pub returns : goal.returns
+returns c =
+    let words = c.args.words.now in
+    let size = c.from_word.ensures in
+    let length = c.from_word-2.ensures in
+    c.of_kind.ensures
+    ∙ (λ j. describedOf (get_or words 0 0) (get_or words 1 0) (get_or words 2 0) (not (eqb (get_or words 3 0) 0)) (size j) (length j))

@@ -1,0 +1,29 @@
+-- Each turn of the loop writes one ring after the one before. Assumes nothing.
+use mathlib.Core.Path.{◌≡◌, refl, sym, ◌∙◌}
+use mathlib.Core.List.{List}
+use Prim.Native.Nat.{ℕ, ◌+◌, ◌*◌, ◌-◌, ◌≤◌}
+use native.Mathlib.Omega.{arith}
+use borrow.Author.Rules.{rules}
+use lib.Ieee.{Float}
+use lib.ListN.{length}
+use Rattle.laws.specs.Overwrite.{overwrite, overwrite-none}
+use Rattle.laws.specs.Blocks.{blocks, one_more, all-written}
+use Rattle.laws.specs.Products.{next_row, row_within}
+use Rattle.surface.specs.declared.caps.End.{End}
+use Rattle.rings.specs.Vertices.{ringOf, capVertex}
+use Rattle.rings.specs.declared.axes.Axes.{Axes}
+use Rattle.rings.proofs.RingVertices.{cap-ring}
+use Rattle.ring_writers.proofs.Lengths.{length-ring}
+use Rattle.ring_writers.proofs.caps.write_cap.Given as goal
+
+-- ring j of the cap
+abbrev pub ringAt : End → Axes → Float → ℕ → ℕ → ℕ → List Float
+ringAt end a r L n j = ringOf (capVertex end a r L j) n
+
+abbrev pub invariant-loop-j : goal.invariant-loop-j
+invariant-loop-j l =
+    (l.out ≡ overwrite 0 (blocks l.j (ringAt l.end l.axes l.radius l.longitudes l.n)) l.initial.out) × (l.place ≡ l.j * (l.n * 3))
+    × (l.j ≤ l.longitudes) × (length l.out ≡ length l.initial.out)
+
+abbrev pub decreases-loop-j : goal.decreases-loop-j
+decreases-loop-j l = l.longitudes - l.j

@@ -1,0 +1,23 @@
+-- Each turn of the loop writes four vertices after those before. Assumes nothing.
+use mathlib.Core.Path.{◌≡◌, refl, sym, ap, ◌∙◌}
+use mathlib.Core.List.{List}
+use Prim.Native.Nat.{ℕ, ◌+◌, ◌*◌, ◌-◌, ◌≤◌}
+use native.Mathlib.Omega.{arith}
+use borrow.Author.Rules.{rules}
+use lib.Ieee.{Float}
+use lib.ListN.{length}
+use Rattle.laws.specs.Overwrite.{overwrite, overwrite-none}
+use Rattle.laws.specs.Blocks.{blocks, some_more}
+use Rattle.rings.specs.Vertices.{vertexOn}
+use Rattle.rings.specs.Rings.{inOrder, ringVertex, fourOf}
+use Rattle.ring_writers.specs.Tables.{fourCoordinates}
+use Rattle.ring_writers.proofs.Tables.{four-vertices}
+use Rattle.ring_writers.proofs.ring_writer.write_fours.Given as goal
+
+abbrev pub invariant-loop-i : goal.invariant-loop-i
+invariant-loop-i l =
+    (l.out ≡ overwrite l.at (blocks l.i (vertexOn (ringVertex l.ring) l.n)) l.initial.out) × (l.place ≡ l.at + l.i * 3) × (l.k ≡ l.i * 3) × (l.i ≤ l.n)
+    × (length l.out ≡ length l.initial.out)
+
+abbrev pub decreases-loop-i : goal.decreases-loop-i
+decreases-loop-i l = l.n - l.i

@@ -1,0 +1,28 @@
+-- Each turn of the loop writes one vertex after the one before. Assumes nothing.
+use mathlib.Core.Path.{◌≡◌, refl, sym, ap, ◌∙◌}
+use mathlib.Core.List.{List}
+use Prim.Native.Nat.{ℕ, ◌+◌, ◌*◌, ◌-◌, ◌≤◌}
+use native.Mathlib.Omega.{arith}
+use borrow.Author.Rules.{rules}
+use lib.Ieee.{Float}
+use lib.ListN.{length}
+use Rattle.laws.specs.Overwrite.{overwrite, overwrite-none}
+use Rattle.laws.specs.Blocks.{blocks, one_more, all-written}
+use Rattle.vec3.specs.Points.{coordinates}
+use Rattle.rings.specs.Vertices.{vertexOn}
+use Rattle.rings.specs.Rings.{inOrder, ringVertex}
+use Rattle.rings.specs.declared.ring.Ring.{Ring}
+use Rattle.ring_writers.proofs.Tables.{vertex-at}
+use Rattle.ring_writers.proofs.ring_writer.write_rest.Given as goal
+
+-- vertex j after the first ones
+abbrev pub later : Ring → ℕ → ℕ → ℕ → List Float
+later ring from n j = vertexOn (ringVertex ring) n (from + j)
+
+abbrev pub invariant-loop-i : goal.invariant-loop-i
+invariant-loop-i l =
+    (l.out ≡ overwrite (l.at + l.from * 3) (blocks (l.i - l.from) (later l.ring l.from l.n)) l.initial.out) × (l.k ≡ l.i * 3) × (l.from ≤ l.i) × (l.i ≤ l.n)
+    × (length l.out ≡ length l.initial.out)
+
+abbrev pub decreases-loop-i : goal.decreases-loop-i
+decreases-loop-i l = l.n - l.i

@@ -1,0 +1,27 @@
+-- Each turn of the loop writes one ring after the one before. Assumes nothing.
+use mathlib.Core.Path.{◌≡◌, refl, sym, ◌∙◌}
+use mathlib.Core.List.{List}
+use Prim.Native.Nat.{ℕ, ◌+◌, ◌*◌, ◌-◌, ◌≤◌}
+use native.Mathlib.Omega.{arith}
+use borrow.Author.Rules.{rules}
+use lib.Ieee.{Float}
+use lib.ListN.{length}
+use Rattle.laws.specs.Overwrite.{overwrite, overwrite-none}
+use Rattle.laws.specs.Blocks.{blocks, one_more, all-written}
+use Rattle.laws.specs.Products.{next_row, row_within}
+use Rattle.vec3.specs.Turns.{whole}
+use Rattle.rings.specs.Vertices.{ringOf, levelVertex}
+use Rattle.ring_writers.proofs.Lengths.{length-ring}
+use Rattle.ring_writers.proofs.trimesh3_primitive.write_levels.Given as goal
+
+-- ring g
+abbrev pub ringAt : Float → Float → Float → ℕ → ℕ → ℕ → List Float
+ringAt r low height S n g = ringOf (levelVertex r low height S g) n
+
+abbrev pub invariant-loop-g : goal.invariant-loop-g
+invariant-loop-g l =
+    (l.out ≡ overwrite 0 (blocks l.g (ringAt l.radius l.low l.height l.layers l.n)) l.initial.out) × (l.place ≡ l.g * (l.n * 3)) × (l.g ≤ l.layers + 1)
+    × (length l.out ≡ length l.initial.out)
+
+abbrev pub decreases-loop-g : goal.decreases-loop-g
+decreases-loop-g l = l.layers + 1 - l.g

@@ -1,0 +1,41 @@
+-- The first frame is written before the loop, and each turn carries the frame one segment on and
+-- writes it after the one before. Assumes nothing.
+use mathlib.Core.Path.{◌≡◌, refl, sym, ap, ◌∙◌}
+use mathlib.Core.List.{List}
+use Prim.Native.Nat.{ℕ, ◌+◌, ◌*◌, ◌-◌, ◌≤◌}
+use native.Mathlib.Omega.{arith}
+use borrow.Author.Rules.{rules}
+use lib.Ieee.{Float}
+use lib.ListN.{length}
+use Rattle.laws.specs.Overwrite.{overwrite, overwrite-none}
+use Rattle.laws.specs.Blocks.{blocks, one_more, all-written, first-and-others}
+use Rattle.vec3.specs.Points.{coordinates}
+use Rattle.curve.specs.Segments.{pointAt}
+use Rattle.curve.specs.Framex.{carriedOn}
+use Rattle.curve.specs.declared.framex.Carried.{Carried}
+use Rattle.swept_bodies.specs.Tables.{carriedIn}
+use Rattle.swept_bodies.proofs.Axes.{carried_on}
+use Rattle.seamless_torus.proofs.frames.fill_frames.Given as goal
+
+-- the coordinates of a frame that is carried
+abbrev pub coordinatesOf : Carried → List Float
+coordinatesOf b = coordinates b.frame.ex
+
+-- those of the frame on segment g, and of the frame on the segment after segment k
+abbrev pub frame_at : List Float → ℕ → List Float
+frame_at directions g = coordinatesOf (carriedIn directions g)
+
+abbrev pub laterFrame : List Float → ℕ → List Float
+laterFrame directions k = frame_at directions (k + 1)
+
+abbrev pub invariant-loop-g : goal.invariant-loop-g
+invariant-loop-g l =
+    (l.frames ≡ overwrite 3 (blocks (l.g - 1) (laterFrame l.directions)) l.initial.frames)
+    × (l.carried ≡ carriedIn l.directions (l.g - 1))
+    × (l.k ≡ l.g * 3)
+    × (1 ≤ l.g)
+    × (l.g ≤ l.count)
+    × (length l.frames ≡ length l.initial.frames)
+
+abbrev pub decreases-loop-g : goal.decreases-loop-g
+decreases-loop-g l = l.count - l.g

@@ -1,0 +1,16 @@
+-- Each turn leaves one fewer. Assumes nothing.
+use native.Mathlib.Omega.{arith}
+use borrow.Author.Rules.{rules}
+use Rattle.streams.proofs.write_some.Goals as goal
+
+pub loop-turns-init : goal.loop-turns-init
+loop-turns-init c = tt
+
+pub overflow_sub-turns : goal.overflow_sub-turns
+overflow_sub-turns c = omega arith
+
+pub loop-turns-smaller : goal.loop-turns-smaller
+loop-turns-smaller c = omega arith
+
+pub loop-turns-preserved : goal.loop-turns-preserved
+loop-turns-preserved c = tt

@@ -1,0 +1,26 @@
+-- Each turn of the loop writes copies of the last copies after them all. Assumes nothing.
+use mathlib.Core.Path.{◌≡◌, refl, sym, ap, ◌∙◌, subst}
+use mathlib.Core.List.{List}
+use Prim.Native.Nat.{ℕ, ◌+◌, ◌-◌, ◌*◌, ◌^◌, ◌≤◌, ◌<◌}
+use native.Mathlib.Nat.{mul-le-mul_right}
+use native.Mathlib.Omega.{arith}
+use borrow.Author.Rules.{rules}
+use lib.ListN.{length}
+use Rattle.laws.specs.Overwrite.{overwrite}
+use Rattle.laws.specs.Blocks.{blocks, all-written}
+use Rattle.laws.specs.Parts.{part, length_part}
+use Rattle.surface.specs.Raise.{raised, copy_of, Below}
+use Rattle.surface.proofs.Below.{below-blocks}
+use Rattle.surface.proofs.Copies.{part-kept, copy-none, next-copies, copies-after}
+use Rattle.surface.proofs.raise.repeat_raised.Given as goal
+
+abbrev pub invariant-loop-done : goal.invariant-loop-done
+invariant-loop-done l =
+    (l.out ≡ overwrite l.at (blocks l.done (copy_of l.rise (part l.at l.size l.initial.out))) l.initial.out)
+    × (l.place ≡ l.at + l.done * l.size)
+    × (0 < l.done)
+    × (l.done ≤ l.times)
+    × (length l.out ≡ length l.initial.out)
+
+abbrev pub decreases-loop-done : goal.decreases-loop-done
+decreases-loop-done l = l.times - l.done

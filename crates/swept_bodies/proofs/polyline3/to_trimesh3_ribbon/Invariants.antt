@@ -1,0 +1,35 @@
+-- Each turn of the loop carries the frame one segment on and writes one pair after the one before.
+-- Assumes nothing.
+use mathlib.Core.Path.{◌≡◌, refl, sym, ap, ◌∙◌}
+use mathlib.Core.List.{List}
+use Prim.Native.Nat.{ℕ, ◌+◌, ◌*◌, ◌-◌, ◌/◌, ◌≤◌}
+use native.Mathlib.Omega.{arith}
+use borrow.Author.Rules.{rules}
+use lib.Ieee.{Float}
+use lib.ListN.{length}
+use Rattle.laws.specs.Overwrite.{overwrite, overwrite-none}
+use Rattle.laws.specs.Blocks.{blocks, one_more, all-written, length-blocks, ends-written}
+use Rattle.curve.specs.Segments.{verticesIn, pointAt}
+use Rattle.curve.specs.Framex.{carriedOn}
+use Rattle.curve.specs.declared.framex.Carried.{Carried}
+use Rattle.swept_bodies.specs.Tables.{carriedIn}
+use Rattle.swept_bodies.specs.Polyline3.{ribbonPair, ribbonPart}
+use Rattle.swept_bodies.proofs.Axes.{carried_on, frame-within, frame-last}
+use Rattle.swept_bodies.proofs.polyline3.to_trimesh3_ribbon.Given as goal
+
+-- the pair at the vertex after vertex k
+abbrev pub laterPair : Float → ℕ → List Float → ℕ → List Float
+laterPair width m curve k = ribbonPart width m curve (k + 1)
+
+abbrev pub invariant-loop-g : goal.invariant-loop-g
+invariant-loop-g l =
+    (l.out ≡ overwrite 6 (blocks (l.g - 1) (laterPair l.width l.m l.curve)) l.initial.out)
+    × (l.carried ≡ carriedIn l.directions (l.g - 1))
+    × (l.place ≡ l.g * 6)
+    × (l.k ≡ l.g * 3)
+    × (1 ≤ l.g)
+    × (l.g ≤ l.m)
+    × (length l.out ≡ length l.initial.out)
+
+abbrev pub decreases-loop-g : goal.decreases-loop-g
+decreases-loop-g l = l.m - l.g

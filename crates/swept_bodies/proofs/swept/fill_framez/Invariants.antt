@@ -1,0 +1,31 @@
+-- Each turn of the loop writes one ez after the one before. Assumes nothing.
+use mathlib.Core.Path.{◌≡◌, refl, sym, ap, ◌∙◌}
+use mathlib.Core.List.{List}
+use Prim.Native.Nat.{ℕ, ◌+◌, ◌*◌, ◌-◌, ◌≤◌}
+use native.Mathlib.Omega.{arith}
+use borrow.Author.Rules.{rules}
+use lib.Ieee.{Float}
+use lib.ListN.{length}
+use Rattle.laws.specs.Overwrite.{overwrite, overwrite-none}
+use Rattle.laws.specs.Blocks.{blocks, one_more, all-written}
+use Rattle.vec3.specs.Points.{coordinates}
+use Rattle.vec3.specs.declared.points.Point.{Point}
+use Rattle.curve.specs.Segments.{pointAt}
+use Rattle.rings.specs.Axes.{betweenOf}
+use Rattle.ring_writers.proofs.Tables.{table-point}
+use Rattle.swept_bodies.proofs.swept.fill_framez.Given as goal
+
+-- ez between segments k and k + 1
+abbrev pub betweenIn : List Float → ℕ → Point
+betweenIn directions k = betweenOf (pointAt directions (k * 3)) (pointAt directions (k * 3 + 3))
+
+abbrev pub invariant-loop-g : goal.invariant-loop-g
+invariant-loop-g l =
+    (l.out ≡ overwrite 3 (blocks (l.g - 1) (λ k. coordinates (betweenIn l.directions k))) l.initial.out)
+    × (l.before ≡ (l.g - 1) * 3)
+    × (1 ≤ l.g)
+    × (l.g - 1 ≤ l.count - 1)
+    × (length l.out ≡ length l.initial.out)
+
+abbrev pub decreases-loop-g : goal.decreases-loop-g
+decreases-loop-g l = l.count - l.g

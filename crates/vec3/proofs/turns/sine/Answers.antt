@@ -1,0 +1,9 @@
+-- `vec3::turns::sine` meets its contract: the code is the definition, its numbers by their bit patterns. Assumes nothing.
+use mathlib.Core.Path.{refl}
+use lib.Ieee.{of_int, of_bits}
+use Rattle.vec3.specs.Turns.{sineOf, bracket, fraction, minusFraction, whole}
+use Rattle.vec3.proofs.turns.sine.Goals as goal
+
+pub returns : goal.returns
+unfolding sineOf bracket fraction minusFraction whole of_int of_bits
+returns c = refl

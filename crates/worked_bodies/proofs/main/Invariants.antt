@@ -1,0 +1,11 @@
+-- The loop prints each of the 17 bodies. Assumes nothing.
+use Prim.Native.Nat.{◌-◌, ◌≤◌}
+use native.Mathlib.Omega.{arith}
+use borrow.Author.Rules.{rules}
+use Rattle.worked_bodies.proofs.main.Given as goal
+
+abbrev pub invariant-loop-i : goal.invariant-loop-i
+invariant-loop-i l = l.i ≤ 17
+
+abbrev pub decreases-loop-i : goal.decreases-loop-i
+decreases-loop-i l = 17 - l.i
