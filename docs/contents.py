@@ -2,7 +2,7 @@
 """Prints what a set's file holds: its counts, and a line for each body of its table of contents.
 
     python3 docs/contents.py examples/harness.set
-    target/bin/sweep < tests/records/sample.records | python3 docs/contents.py
+    crates/sweep/out/sweep < tests/records/sample.records | python3 docs/contents.py
 """
 
 import math

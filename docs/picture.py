@@ -3,7 +3,7 @@
 
     python3 docs/picture.py examples/harness.set > plain.svg
     python3 docs/picture.py --stripes=9 examples/harness.set > docs/harness.svg
-    target/bin/sweep < tests/records/sample.records | python3 docs/picture.py > sample.svg
+    crates/sweep/out/sweep < tests/records/sample.records | python3 docs/picture.py > sample.svg
 
 --stripes=0,3 draws the bodies 0 and 3 with stripes in place of a colour of their own. A stripe
 joins the same corners of all rings, so that it shows how a body is twisted. A ribbon has no rings,

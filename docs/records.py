@@ -1,8 +1,8 @@
 #!/usr/bin/env python3
 """Turns a text of bodies and their curves into records for `sweep`, on standard output.
 
-    python3 docs/records.py examples/harness.txt > target/harness.records &&
-      target/bin/sweep < target/harness.records > target/harness.set
+    python3 docs/records.py examples/harness.txt > ../harness.records &&
+      crates/sweep/out/sweep < ../harness.records > ../harness.set
 
 A line names a body and its sizes, in any order. The lines after it are the points of its curve,
 each x y z, in the unit of the sizes. A comment runs from # to the end of its line.

@@ -1,7 +1,7 @@
 /* Builds a set of a post, a hose and a plug, shows what stands in it and writes its file.
  *
- *     cc -std=c99 -I include examples/set.c target/staticlib/libtogbefulo.a -o target/set
- *     target/set target/set.set
+ *     cc -std=c99 -I include examples/set.c crates/togbefulo/out/libtogbefulo.a -o ../set
+ *     ../set ../set.set
  *
  * The file goes to the path that is given, or else to standard output; what is shown goes to standard error. */
 #include "togbefulo.h"

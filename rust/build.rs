@@ -1,4 +1,4 @@
-//! Links the proved code: libtogbefulo.a of the folder that TOGBEFULO_LIB_DIR names, or of target/staticlib beside
+//! Links the proved code: libtogbefulo.a of the folder that TOGBEFULO_LIB_DIR names, or of crates/togbefulo/out beside
 //! this folder.
 
 use std::{
@@ -15,7 +15,7 @@ fn main() {
     let library = folder.join("libtogbefulo.a");
     if !library.is_file() {
         println!(
-            "cargo::error={} is not there: make it with `rt staticlib togbefulo`, or name its folder in {FOLDER}",
+            "cargo::error={} is not there: make it with `rt lib` in crates/togbefulo, or name its folder in {FOLDER}",
             library.display()
         );
         return;
@@ -28,6 +28,6 @@ fn main() {
 /// A relative path is one from the folder of this crate, where cargo runs this.
 fn folder() -> PathBuf {
     let manifest = env::var_os("CARGO_MANIFEST_DIR").expect("cargo names the manifest's folder");
-    let beside = || "../target/staticlib".into();
+    let beside = || "../crates/togbefulo/out".into();
     Path::new(&manifest).join(env::var_os(FOLDER).unwrap_or_else(beside))
 }

@@ -13,9 +13,9 @@
 //! and has no plain outside there.
 //!
 //! The code that does the work is `libtogbefulo.a`, for x86-64 Linux; its functions stand in
-//! [`ffi`]. It is linked from `../target/staticlib`, where `rt staticlib togbefulo` leaves it, or
-//! from the folder that the environment variable `TOGBEFULO_LIB_DIR` names; a relative path begins
-//! at the folder of this crate.
+//! [`ffi`]. It is linked from `../crates/togbefulo/out`, where `rt lib` leaves it, or from the
+//! folder that the environment variable `TOGBEFULO_LIB_DIR` names; a relative path begins at the
+//! folder of this crate.
 //!
 //! ```
 //! use togbefulo::{Description, Refusal, Set, TABLE_WORDS};

@@ -116,7 +116,7 @@ fn exported() -> BTreeSet<String> {
     let source = folder().join("../crates/togbefulo/src");
     let files = fs::read_dir(&source).expect("the proved source");
     let texts = files.map(|file| read(&file.expect("a file of it").path()));
-    let start = "#[no_mangle]\npub extern \"C\" fn ";
+    let start = "#[unsafe(no_mangle)]\npub extern \"C\" fn ";
     let exported = texts.flat_map(|text| declared(&text, start, &['\n', ' '], rattle_argument));
     set_of(exported.collect())
 }

@@ -9,7 +9,7 @@ ROOT = Path(__file__).resolve().parents[2]
 HARNESS = ROOT / "examples/harness.set"
 SEAM = ROOT / "examples/seam.set"
 SETS = sorted((ROOT / "tests/records").glob("*.set")) + [HARNESS, SEAM]
-SWEEP = ROOT / "target/bin/sweep"
+SWEEP = ROOT / "crates/sweep/out/sweep"
 
 sys.path.insert(0, str(ROOT / "docs"))
 

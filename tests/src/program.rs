@@ -12,7 +12,7 @@ use std::{
 pub const PATIENCE: Duration = Duration::from_secs(20);
 
 pub fn path() -> PathBuf {
-    Path::new(env!("CARGO_MANIFEST_DIR")).join("../target/bin/sweep")
+    Path::new(env!("CARGO_MANIFEST_DIR")).join("../crates/sweep/out/sweep")
 }
 
 /// Starts the program; its standard error is a pipe.

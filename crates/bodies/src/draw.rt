@@ -23,8 +23,8 @@ const FEW_DIRECTION_FLOATS: usize = 768;
 // Fills the table of the directions of a permitted curve's segments. A body fills it once: the
 // check for folds (13) and the vertices both read it.
 fn fill_table(description: Description, curve: &[f32], directions: &mut [f32])
-    requires curve_value { verticesPermitted description (length curve.now / 3) ≡ true }
-    requires curve_in_bounds { segmentCount description (length curve.now / 3) * 3 ≤ length directions.old }
+    requires vertices_permitted { verticesPermitted description (length curve.now / 3) ≡ true }
+    requires directions_room { segmentCount description (length curve.now / 3) * 3 ≤ length directions.old }
     ensures { let count = segmentCount description (length curve.now / 3) in
         directions.new
         ≡ overwrite 0 (directionsOf (curveChain description) count curve.now) directions.old }
@@ -60,11 +60,11 @@ fn draw_with(
     out: &mut [f32],
 ) -> bool
     requires shape_permitted { ShapePermitted description (length curve.now / 3) }
-    requires curve_in_bounds { segmentCount description (length curve.now / 3) * 3 ≤ length directions.old }
-    requires curve_in_bounds_2 { segmentCount description (length curve.now / 3) * 3 ≤ length ez.old }
-    requires curve_in_bounds_3 { isWriting work ≡ true
+    requires directions_room { segmentCount description (length curve.now / 3) * 3 ≤ length directions.old }
+    requires ez_room { segmentCount description (length curve.now / 3) * 3 ≤ length ez.old }
+    requires out_room { isWriting work ≡ true
         → 3 * vertexCount (topologyOf description (length curve.now / 3)) ≤ length out.old }
-    ensures value { result ≡ isLenient work || curveFoldsPermitted description curve.now }
+    ensures answer { result ≡ isLenient work || curveFoldsPermitted description curve.now }
     ensures out_after { out.new
         ≡ placed (result && isWriting work) (drawnOf description curve.now) out.old }
 {
@@ -81,9 +81,9 @@ fn draw_with(
 // Does the same with scratch space of its own.
 pub(crate) fn draw(work: Work, description: Description, curve: &[f32], out: &mut [f32]) -> bool
     requires shape_permitted { ShapePermitted description (length curve.now / 3) }
-    requires curve_in_bounds { isWriting work ≡ true
+    requires out_room { isWriting work ≡ true
         → 3 * vertexCount (topologyOf description (length curve.now / 3)) ≤ length out.old }
-    ensures value { result ≡ isLenient work || curveFoldsPermitted description curve.now }
+    ensures answer { result ≡ isLenient work || curveFoldsPermitted description curve.now }
     ensures out_after { out.new
         ≡ placed (result && isWriting work) (drawnOf description curve.now) out.old }
 {

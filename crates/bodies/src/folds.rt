@@ -24,8 +24,8 @@ pub fn is_without_fold(description: Description, curve: &[f32]) -> bool
 // the front of `out` if it passes, and answers whether it does.
 pub fn write_unless_folded(description: Description, curve: &[f32], out: &mut [f32]) -> bool
     requires shape_permitted { ShapePermitted description (length curve.now / 3) }
-    requires curve_in_bounds { 3 * vertexCount (topologyOf description (length curve.now / 3)) ≤ length out.old }
-    ensures value { result ≡ curveFoldsPermitted description curve.now }
+    requires out_room { 3 * vertexCount (topologyOf description (length curve.now / 3)) ≤ length out.old }
+    ensures answer { result ≡ curveFoldsPermitted description curve.now }
     ensures out_after { out.new ≡ placed result (drawnOf description curve.now) out.old }
 {
     draw(Work::WriteUnlessFolded, description, curve, out)

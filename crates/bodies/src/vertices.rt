@@ -26,9 +26,9 @@ pub(crate) fn fill(
     out: &mut [f32],
 )
     requires shape_permitted { ShapePermitted description (length curve.now / 3) }
-    requires curve_in_bounds { 3 * vertexCount (topologyOf description (length curve.now / 3)) ≤ length out.old }
+    requires out_room { 3 * vertexCount (topologyOf description (length curve.now / 3)) ≤ length out.old }
     requires curve_directions { CurveDirections description curve.now directions.now }
-    requires curve_in_bounds_2 { segmentCount description (length curve.now / 3) * 3 ≤ length ez.old }
+    requires ez_room { segmentCount description (length curve.now / 3) * 3 ≤ length ez.old }
     ensures { out.new ≡ overwrite 0 (drawnOf description curve.now) out.old }
 {
     match description {
@@ -69,7 +69,7 @@ pub(crate) fn fill(
 // divisions (20) or its longitudes or layers (21), or if `out` is too short, it answers false and
 // writes nothing.
 pub fn write_vertices(description: Description, curve: &[f32], out: &mut [f32]) -> bool
-    ensures value { result ≡ drawable description curve.now (length out.old) }
+    ensures answer { result ≡ drawable description curve.now (length out.old) }
     ensures out_after { out.new ≡ placed result (drawnOf description curve.now) out.old }
 {
     if curve.len() % 3 != 0 {

@@ -1,10 +1,6 @@
 -- What is carried along a curve: on its first segment, and on each segment after it, one transport
 -- further. Assumes nothing.
-use mathlib.Core.Path.{◌≡◌, refl}
-use mathlib.Core.List.{List}
-use Prim.Native.Nat.{ℕ, ◌+◌}
-use native.Mathlib.Numerals.{add-one}
-use lib.Ieee.{Float}
+use Rattle.std.proofs.Common.{◌≡◌, refl, List, ℕ, ◌+◌, add-one, Float}
 use Rattle.surface.specs.declared.grid.Chain.{Chain}
 use Rattle.curve.specs.Segments.{segmentDirection}
 use Rattle.vec3.specs.Frames.{firstFrame}

@@ -1,14 +1,7 @@
 -- The table of directions: its length, each of its points, also in a buffer at whose front it was
 -- written, and that it has the curve's own folds. Assumes nothing.
-use mathlib.Core.Path.{◌≡◌, refl, sym, ap, ◌∙◌}
-use mathlib.Core.Bool.{not}
-use mathlib.Core.List.{List}
-use Prim.Native.Nat.{ℕ, ◌+◌, ◌-◌, ◌*◌, ◌≤◌, ◌<◌}
-use native.Mathlib.Nat.{zero-add, mod-lt}
-use native.Mathlib.Omega.{arith}
-use borrow.Author.Tests.{lt-ltb}
-use lib.Ieee.{Float, nan}
-use lib.ListN.{length, get_or}
+use Rattle.std.proofs.Common.{◌≡◌, refl, sym, ap, ◌∙◌, not, List, ℕ, ◌+◌, ◌-◌, ◌*◌, ◌≤◌, ◌<◌, zero-add, mod-lt, arith, lt-ltb, Float, length, get_or}
+use Rattle.std.specs.Float.{nan}
 use Rattle.laws.specs.Blocks.{length-blocks, getD-blocks}
 use Rattle.laws.specs.Every.{every-cong}
 use Rattle.laws.specs.Overwrite.{overwrite, length-overwrite, getD-within}

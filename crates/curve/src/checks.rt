@@ -6,6 +6,7 @@ use surface::Chain;
 use vec3::Point;
 
 // Whether a segment is refused for its length (12).
+#[tactic(auto, unfolding(crate::specs::Checks::segmentRefused))]
 fn is_refused(v: Point) -> bool
     ensures { result ≡ segmentRefused v }
 {
@@ -16,6 +17,7 @@ fn is_refused(v: Point) -> bool
 }
 
 // Whether none of the `count` segments is refused for its length (12).
+#[tactic(auto, using(laws::specs::Every::every_more), unfolding(crate::specs::Checks::segmentsPermitted))]
 pub fn are_segments_permitted(chain: Chain, count: u16, curve: &[f32]) -> bool
     ensures { result ≡ segmentsPermitted chain count curve.now }
 {
@@ -31,6 +33,7 @@ pub fn are_segments_permitted(chain: Chain, count: u16, curve: &[f32]) -> bool
 
 // Document 01's c at the corner where segment k of `count` ends: the dot of its direction with
 // that of the segment after it. `directions` begins with the directions of all segments.
+#[tactic(auto, unfolding(crate::specs::Checks::cosineIn))]
 fn corner_cosine(chain: Chain, count: u16, directions: &[f32], k: u16) -> f32
     ensures { result ≡ cosineIn chain count directions.now k }
 {
@@ -39,6 +42,7 @@ fn corner_cosine(chain: Chain, count: u16, directions: &[f32], k: u16) -> f32
 }
 
 // Whether a corner with this c is a fold (13).
+#[tactic(auto, unfolding(crate::specs::Checks::isFold))]
 fn is_fold(c: f32) -> bool
     ensures { result ≡ isFold c }
 {
@@ -47,6 +51,7 @@ fn is_fold(c: f32) -> bool
 
 // Whether none of the first `corners` corners is a fold (13). `directions` begins with the
 // directions of the `count` segments.
+#[tactic(auto, using(laws::specs::Every::every_more), unfolding(crate::specs::Checks::noFoldIn))]
 pub fn has_no_fold(chain: Chain, count: u16, corners: u16, directions: &[f32]) -> bool
     ensures { result ≡ noFoldIn chain count corners directions.now }
 {

@@ -13,6 +13,7 @@ pub struct Carried {
 
 impl Carried {
     // What is carried on the first segment, whose direction is `u`.
+    #[tactic(auto, unfolding(crate::specs::Framex::carriedOn))]
     pub fn first(u: Point) -> Carried
         ensures { result ≡ carriedOn u }
     {
@@ -23,6 +24,7 @@ impl Carried {
     }
 
     // The same on the next segment, whose direction is `w`.
+    #[tactic(auto, unfolding(crate::specs::Framex::carriedTo))]
     pub fn next(self, w: Point) -> Carried
         ensures { result ≡ carriedTo self w }
     {

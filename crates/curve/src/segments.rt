@@ -18,6 +18,7 @@ pub fn point(floats: &[f32], at: usize) -> Point
 }
 
 // Vertex k, or NaNs if the curve has no vertex k.
+#[tactic(auto, unfolding(crate::specs::Segments::vertexOf))]
 pub fn vertex(curve: &[f32], k: usize) -> Point
     ensures { result ≡ vertexOf curve.now k }
 {
@@ -57,6 +58,7 @@ pub(crate) fn end(chain: Chain, count: u16, k: u16) -> usize
 }
 
 // Segment k of `count`, from its first vertex to its last: the difference of the two.
+#[tactic(auto, unfolding(crate::specs::Segments::segmentOf))]
 pub fn segment(chain: Chain, count: u16, curve: &[f32], k: u16) -> Point
     ensures { result ≡ segmentOf chain count curve.now k }
 {
@@ -64,6 +66,7 @@ pub fn segment(chain: Chain, count: u16, curve: &[f32], k: u16) -> Point
 }
 
 // Segment k of `count`, normalised.
+#[tactic(auto, unfolding(crate::specs::Segments::segmentDirection))]
 pub fn direction(chain: Chain, count: u16, curve: &[f32], k: u16) -> Point
     ensures { result ≡ segmentDirection chain count curve.now k }
 {

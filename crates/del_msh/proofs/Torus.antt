@@ -1,5 +1,5 @@
--- The frames of polyloop3.rs are document 01's, and so is the torus over any list of frames. Assumes
--- nothing.
+-- The frames of polyloop3.rs are document 01's, and so is the torus over any list of frames.
+-- Assumes nothing.
 use mathlib.Core.Path.{◌≡◌, refl, sym, ap, ◌∙◌}
 use mathlib.Core.List.{List, [], ◌∷◌, ◌++◌}
 use Prim.Native.Nat.{ℕ, ◌+◌, ◌-◌, ◌*◌, ◌%◌, ◌≤◌, ◌<◌}

@@ -17,7 +17,8 @@ use Rattle.bodies.specs.Bodies.{verticesOf}
 use Rattle.del_msh.specs.Vectors.{vec, len}
 use Rattle.del_msh.specs.Arrays.{Outside, minus, xyz, zeros, zeroTriangle}
 use Rattle.del_msh.specs.DelGeoCore.{Angle}
-use Rattle.del_msh.specs.Trimesh3Primitive.{TriMesh, cylinder-open-end-number-of-tri-and-vtx, cylinder-open-end-set-topology, cylinder-closed-end-yup}
+use Rattle.del_msh.specs.Trimesh3Primitive.{TriMesh, cylinder-open-end-number-of-tri-and-vtx}
+use Rattle.del_msh.specs.Trimesh3Primitive.{cylinder-open-end-set-topology, cylinder-closed-end-yup}
 use Rattle.del_msh.specs.Polyline3 as polyline3
 use Rattle.del_msh.specs.Polyloop3 as polyloop3
 
@@ -50,11 +51,15 @@ module _ (outside : Outside) (arctangent : Float → Float → Twist) where
       (tri2vtx, vtx2xyz)
 
   abbrev pub body : Description → List Float → TriMesh
-  body (Ribbon width) c = polyline3.to-trimesh3-ribbon outside (chunks c) (polyline3.vtx2framex outside (chunks c)) width
+  body (Ribbon width) c =
+      polyline3.to-trimesh3-ribbon outside (chunks c) (polyline3.vtx2framex outside (chunks c)) width
   body (Tube divisions radius) c = tube (chunks c) divisions radius
-  body (Capsule divisions longitudes radius) c = polyline3.to-trimesh3-capsule outside (chunks c) divisions longitudes radius
-  body (Torus divisions radius) c = polyloop3.to-trimesh3-torus outside (chunks c) (polyloop3.vtx2framex outside (chunks c)) radius divisions
-  body (ClosedCylinder divisions layers centred radius length) c = cylinder-closed-end-yup outside radius length divisions layers centred
+  body (Capsule divisions longitudes radius) c =
+      polyline3.to-trimesh3-capsule outside (chunks c) divisions longitudes radius
+  body (Torus divisions radius) c =
+      polyloop3.to-trimesh3-torus outside (chunks c) (polyloop3.vtx2framex outside (chunks c)) radius divisions
+  body (ClosedCylinder divisions layers centred radius length) c =
+      cylinder-closed-end-yup outside radius length divisions layers centred
   body (SeamlessTorus divisions radius) c =
       polyloop3.to-trimesh3-torus outside (chunks c)
       (polyloop3.smooth-frame outside (λ s0 c0. turnBy (arctangent s0 c0)) (chunks c)) radius divisions

@@ -54,8 +54,8 @@ module _ (outside : Outside) where
             assign vtx2bin iseg1 b12,
       ) vtx2bin
 
-  -- line 53. `atan2` is what stands for the arctangent: "The reference is `smooth_frame` with this k
-  -- standing for its arctangent. Its tolerance asserts are dropped" (document 02, No. 1).
+  -- line 53. `atan2` is what stands for the arctangent: "The reference is `smooth_frame` with this
+  -- k standing for its arctangent. Its tolerance asserts are dropped" (document 02, No. 1).
   unfoldable pub match-frames-of-two-ends : (Float → Float → Angle) → List Point → List Point → List Point
   match-frames-of-two-ends atan2 vtx2xyz vtx2bin0 =
       let num-vtx = len vtx2xyz in

@@ -1,12 +1,6 @@
 -- The corners at which a fold (13) is looked for, and the answer where 13 is the last test.
 -- Assumes nothing.
-use mathlib.Core.Path.{◌≡◌, ap, ◌∙◌}
-use mathlib.Core.Bool.{Bool, cond}
-use mathlib.Core.List.{List, [], ◌∷◌, ◌++◌}
-use Prim.Native.Nat.{ℕ, ◌-◌, ◌/◌}
-use lib.Ieee.{Float}
-use lib.ListN.{length}
-use native.Mathlib.Omega.{arith}
+use Rattle.std.proofs.Common.{◌≡◌, ap, ◌∙◌, Bool, cond, List, [], ◌∷◌, ◌++◌, ℕ, ◌-◌, ◌/◌, Float, length, arith}
 use Rattle.curve.specs.Checks.{CornersWithin}
 use Rattle.curve.proofs.Table.{loop-corners, inner-corners}
 use Rattle.surface.specs.declared.grid.Chain.{Chain}

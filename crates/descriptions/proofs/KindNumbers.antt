@@ -1,11 +1,5 @@
 -- The kind numbers of a record and of an entry are the same. Assumes nothing.
-use mathlib.Core.Path.{◌≡◌, refl, sym, ap, ◌∙◌}
-use mathlib.Core.Bool.{Bool, true, false, cond}
-use Prim.Native.Nat.{ℕ}
-use native.Mathlib.Omega.{arith}
-use borrow.Author.Tests.{eqb-true}
-use lib.Dec.{eqb}
-use lib.Ieee.{Float}
+use Rattle.std.proofs.Common.{◌≡◌, refl, sym, ap, ◌∙◌, Bool, true, false, cond, ℕ, arith, eqb-true, eqb, Float}
 use Rattle.kinds.specs.Limits.{between}
 use Rattle.descriptions.specs.KindNumbers.{kindNumber, lastKind, describedOf}
 use Rattle.descriptions.specs.declared.description.Description.{Description}

@@ -1,13 +1,5 @@
 -- What it tells of a body's numbers that 10, 20 and 21 do not refuse them. Assumes nothing.
-use mathlib.Core.Path.{◌≡◌}
-use mathlib.Core.Bool.{true, ◌&&◌}
-use mathlib.Core.List.{List}
-use Prim.Native.Nat.{ℕ, ◌+◌, ◌-◌, ◌*◌, ◌%◌, ◌/◌, ◌^◌, ◌≤◌}
-use native.Mathlib.Nat.{mul-le-mul}
-use native.Mathlib.Omega.{arith}
-use lib.Ieee.{Float}
-use lib.ListN.{length}
-use borrow.Author.Tests.{le-leb, eqb-true}
+use Rattle.std.proofs.Common.{◌≡◌, true, ◌&&◌, List, ℕ, ◌+◌, ◌-◌, ◌*◌, ◌%◌, ◌/◌, ◌^◌, ◌≤◌, mul-le-mul, arith, Float, length, le-leb, eqb-true}
 use Rattle.laws.specs.Conjunction.{both_true}
 use Rattle.surface.specs.declared.grid.Chain.{Chain}
 use Rattle.surface.specs.declared.grid.Chain.TheVariants as chain
@@ -125,3 +117,6 @@ segments-shape d c h = curve-shape d c h.0 h.1.0 h.1.1.0
 pub checked-shape : (d : Description) (c : List Float)
     → AllPermitted (checkedTests d c) → (length c % 3 ≡ 0) × ShapePermitted d (length c / 3)
 checked-shape d c h = curve-shape d c h.0 h.1.0 h.1.1.0
+
+-- what the search uses where a number of a permitted description is cast
+pub ruleset limits = (vertices-most, divisions-most, shape-bounds)

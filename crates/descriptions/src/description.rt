@@ -53,6 +53,7 @@ impl Description {
     }
 
     // How many segments a curve of a permitted number of vertices has.
+    #[tactic(auto, using(crate::proofs::Shapes::limits))]
     pub fn segment_count(self, vertices: usize) -> u16
         requires { verticesPermitted self vertices ≡ true }
         ensures { result ≡ segmentCount self vertices }
@@ -97,6 +98,7 @@ impl Description {
     }
 
     // The body by its numbers. A loop has as many vertices as segments.
+    #[tactic(auto, using(crate::proofs::Shapes::limits))]
     pub(crate) fn topology(self, vertices: usize) -> Topology
         requires { ShapePermitted self vertices }
         ensures { result ≡ topologyOf self vertices }

@@ -16,6 +16,7 @@ pub enum Described {
 // Makes the description of the kind that has the number `kind`. `size` is the width of a ribbon
 // and the radius of the others, `steps` the longitudes of a capsule and the layers of a closed
 // cylinder. What a kind lacks is ignored.
+#[tactic(auto, unfolding(crate::specs::KindNumbers::describedOf))]
 pub fn of_kind(
     kind: u32,
     divisions: u32,

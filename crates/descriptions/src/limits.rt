@@ -7,6 +7,7 @@ use crate::description::Description;
 use kinds::{Capsule, ClosedCylinder, Ribbon, Torus, Tube, is_between};
 
 // Whether a radius, a width or a length is permitted (22).
+#[tactic(auto, unfolding(crate::specs::Refusals::sizePermitted))]
 fn is_size_permitted(x: f32) -> bool
     ensures { result ≡ sizePermitted x }
 {

@@ -1,5 +1,5 @@
 // Curves that cannot fold, in eighths, so that every sum of coordinates is exact.
-ghost use Rattle.std.specs.Prelude.{◌≡◌, ◌+◌, ◌≤◌, length, take};
+ghost use Rattle.std.specs.Prelude.{◌≡◌, ◌≤◌, length};
 
 use crate::cases::Case;
 use crate::generator::{below, eighths, next};
@@ -7,26 +7,24 @@ use crate::generator::{below, eighths, next};
 // Room for the coordinates of any case.
 pub(crate) const COORDINATES: usize = 768;
 
-fn put_vertex(curve: &mut [f32], at: usize, x: f32, y: f32, z: f32)
-    requires { at + 3 ≤ length curve.old }
+fn put_vertex(vertex: &mut [f32], x: f32, y: f32, z: f32)
+    requires { 3 ≡ length vertex.old }
 {
-    curve[at] = x;
-    curve[at + 1] = y;
-    curve[at + 2] = z;
+    vertex[0] = x;
+    vertex[1] = y;
+    vertex[2] = z;
 }
 
 // Fills the slice with an open curve: x and y wander, z rises by 1/4 or more at each segment.
 fn fill_open(seed: u32, curve: &mut [f32]) {
     let mut state = seed;
     let mut z = 0.0f32;
-    let mut i: usize = 0;
-    while i + 3 <= curve.len() {
+    for vertex in curve.chunks_exact_mut(3) {
         let x = next(state);
         let y = next(x);
         state = next(y);
-        put_vertex(curve, i, eighths(below(x, 16)), eighths(below(y, 16)), z);
+        put_vertex(vertex, eighths(below(x, 16)), eighths(below(y, 16)), z);
         z = z + eighths(2 + below(state, 8));
-        i += 3;
     }
 }
 
@@ -37,21 +35,19 @@ fn fill_closed(vertices: u8, seed: u32, curve: &mut [f32]) {
     let mut x = 0.0f32;
     let mut y = 0.0f32;
     let mut rise = (vertices as f32 - 2.0) * 0.5;
-    let mut i: usize = 0;
-    while i + 3 <= curve.len() {
+    for vertex in curve.chunks_exact_mut(3) {
         state = next(state);
-        put_vertex(curve, i, x, y, eighths(below(state, 16)));
+        put_vertex(vertex, x, y, eighths(below(state, 16)));
         x = x + 0.5;
         y = y + rise;
         rise = rise - 1.0;
-        i += 3;
     }
 }
 
 // Writes the coordinates of the case's curve to the front of `space`, and answers their number.
 pub(crate) fn fill_curve(case: Case, space: &mut [f32]) -> usize
     requires { 768 ≡ length space.old }
-    ensures { (result ≤ length space.new) × (result ≡ length (take result space.new)) }
+    ensures { result ≤ length space.new }
 {
     let count = 3 * case.vertices as usize;
     if case.is_closed() {

@@ -30,7 +30,8 @@ next-cases n i h = pick (eq-or-lt_of_le h)
 next-lt : (n i : ℕ) → 0 < n → (i + 1) % n < n
 next-lt n i h = mod-lt (i + 1) h
 
--- What is asked of a successor, on the numbers below n, so that an edge's steps tell where it stands.
+-- What is asked of a successor, on the numbers below n, so that an edge's steps tell where it
+-- stands.
 pub record Turn (next : ℕ → ℕ) (n : ℕ) : Type 0 where
   pub moves : (i : ℕ) → next i ≢ i
   pub twice : (i : ℕ) → next (next i) ≢ i
@@ -86,7 +87,8 @@ corner-inj chain n h true i j hi hj p = (chain-turn chain n h).one_way i j hi hj
 
 -- ---- the step on the other side of an edge that goes from side x of step i to side y
 
--- it is the step itself where the edge crosses the step, the one before where it lies on the near side, the one behind where on the far side
+-- it is the step itself where the edge crosses the step, the one before where it lies on the near
+-- side, the one behind where on the far side
 abbrev pub Across : Chain → ℕ → Bool → Bool → ℕ → ℕ → Type 0
 Across chain n false false i j = after_of chain n j ≡ i
 Across chain n false true i j = j ≡ i

@@ -49,8 +49,9 @@ below6 Q q0 q1 q2 q3 q4 q5 (suc (suc (suc (suc zero)))) h = q4
 below6 Q q0 q1 q2 q3 q4 q5 (suc (suc (suc (suc (suc zero))))) h = q5
 below6 Q q0 q1 q2 q3 q4 q5 (suc (suc (suc (suc (suc (suc s)))))) h = absurd (omega arith)
 
--- The six edges of a quad, by the corners that they leave and reach. An edge's steps tell its place; a half turn of the quad carries each
--- edge to its mate, which is how its reverse lies in the quad on its other side.
+-- The six edges of a quad, by the corners that they leave and reach. An edge's steps tell its
+-- place; a half turn of the quad carries each edge to its mate, which is how its reverse lies in
+-- the quad on its other side.
 pub record Pattern : Type 0 where
   pub tail : ℕ → Corner
   pub head : ℕ → Corner

@@ -1,4 +1,5 @@
--- n triangles round a pole: (p, x i, y i) for each i below n, as places of one row. Assumes nothing.
+-- n triangles round a pole: (p, x i, y i) for each i below n, as places of one row. Assumes
+-- nothing.
 use mathlib.Core.Path.{◌≡◌, refl, ◌∙◌}
 use mathlib.Core.Logic.{◌≢◌}
 use mathlib.Core.List.{[], ◌∷◌}
@@ -27,7 +28,8 @@ fan-total p x y n f =
     ∙ sum-cong n _ (λ i. sum 3 (λ s. f (fan p x y 0 i s))) (λ i h. omega arith)
     ∙ omega arith
 
--- A fan closes: the x and the y of its triangles are the same vertices, each once, and the pole is none of them.
+-- A fan closes: the x and the y of its triangles are the same vertices, each once, and the pole is
+-- none of them.
 pub record Round (p : ℕ) (x y : ℕ → ℕ) (n : ℕ) : Type 0 where
   pub pole-x : (i : ℕ) → i < n → p ≢ x i
   pub pole-y : (i : ℕ) → i < n → p ≢ y i

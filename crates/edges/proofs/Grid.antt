@@ -1,5 +1,5 @@
--- The edges of a grid of quads, whichever way it wraps: none comes twice, and those whose quad has no neighbour lack their reverse.
--- Assumes nothing.
+-- The edges of a grid of quads, whichever way it wraps: none comes twice, and those whose quad has
+-- no neighbour lack their reverse. Assumes nothing.
 use mathlib.Core.Path.{◌≡◌, refl, sym, ap, ◌∙◌, subst₂}
 use mathlib.Core.Logic.{◌⊎◌, inl, inr}
 use mathlib.Core.Bool.{Bool, true, false, not}

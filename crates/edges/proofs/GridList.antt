@@ -90,7 +90,8 @@ module _ (split : Split) (along : Chain) (m : ℕ) (round : Chain) (n : ℕ) (ba
             ap is_zero (grid-total (same e) ∙ places-none m n 6 at e (grid-lone along m round n base hm hn (patternOf split) g i s hg hi hs p))
             ∙ omega (arith, outer-le along m round n base hm hn (patternOf split) g i s hs)
 
-    -- A grid that does not close along the curve has the edges of two rings unmatched, one that does not close round has two lines.
+    -- A grid that does not close along the curve has the edges of two rings unmatched, one that
+    -- does not close round has two lines.
     pub grid-unmatched : unmatched (edges list) ≡ n * ends along + m * ends round
     grid-unmatched =
         grid-total (lacks (edges list))

@@ -1,4 +1,5 @@
--- Every edge of a list has its reverse just where no edge of it is unmatched; and `NoneTwice` read by places. Assumes nothing.
+-- Every edge of a list has its reverse just where no edge of it is unmatched; and `NoneTwice` read
+-- by places. Assumes nothing.
 use mathlib.Core.Path.{◌≡◌, refl, sym, ap}
 use mathlib.Core.Logic.{◌⊎◌, inl, inr}
 use mathlib.Core.List.{List, [], ◌∷◌}

@@ -1,4 +1,5 @@
--- Totals over places (g, i, s): row, column, place in the cell; and what they tell of a list of edges. Assumes nothing.
+-- Totals over places (g, i, s): row, column, place in the cell; and what they tell of a list of
+-- edges. Assumes nothing.
 use mathlib.Core.Path.{◌≡◌, sym, ◌∙◌}
 use mathlib.Core.Logic.{◌⊎◌, inl, inr}
 use Prim.Native.Nat.{ℕ, ◌≤◌, ◌<◌}

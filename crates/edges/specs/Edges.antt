@@ -1,4 +1,5 @@
--- Directed edges, and what is claimed of them. Document 01, 'Triangle lists', first paragraph, and demand 3. Definitions only.
+-- Directed edges, and what is claimed of them. Document 01, 'Triangle lists', first paragraph, and
+-- demand 3. Definitions only.
 use Rattle.std.specs.Prelude.{List, [], ◌∷◌, Bool, true, false, ℕ, zero, suc, ◌+◌, ◌≤◌, ◌<◌, eqb}
 use Rattle.surface.specs.Triangles.{Triangle, triangle}
 use Rattle.surface.specs.declared.grid.Chain.{Chain}
@@ -12,7 +13,8 @@ pub data Edge : Type 0 where
 abbrev pub reverse : Edge → Edge
 reverse (a ⟶ b) = b ⟶ a
 
--- "Triangle (a, b, c) has the directed edges a to b, b to c and c to a": three places for each triangle of a list.
+-- "Triangle (a, b, c) has the directed edges a to b, b to c and c to a": three places for each
+-- triangle of a list.
 abbrev pub edges : List Triangle → List Edge
 edges [] = []
 edges (triangle a b c ∷ ts) = (a ⟶ b) ∷ (b ⟶ c) ∷ (c ⟶ a) ∷ edges ts
@@ -62,10 +64,11 @@ Inside least end v = (least ≤ v) × (v < end)
 
 abbrev pub Within : ℕ → ℕ → List Triangle → Type 0
 Within least end [] = Unit {0}
-Within least end (triangle a b c ∷ ts) = Inside least end a × Inside least end b × Inside least end c × Within least end ts
+Within least end (triangle a b c ∷ ts) =
+    Inside least end a × Inside least end b × Inside least end c × Within least end ts
 
--- How many steps a chain has at least. On a closed one of two the step forward and the step back lead to one point, so that edges meet their
--- reverses that should not.
+-- How many steps a chain has at least. On a closed one of two the step forward and the step back
+-- lead to one point, so that edges meet their reverses that should not.
 abbrev pub leastSteps : Chain → ℕ
 leastSteps Open = 1
 leastSteps Closed = 3

@@ -1,4 +1,5 @@
--- A product is at most the product of what its factors are at most: with the bounds written out, so that omega can be told them. Assumes nothing.
+-- A product is at most the product of what its factors are at most: with the bounds written out,
+-- so that omega can be told them. Assumes nothing.
 use Prim.Native.Nat.{ℕ, ◌*◌, ◌≤◌}
 use native.Mathlib.Nat.{mul-le-mul}
 

@@ -1,4 +1,5 @@
--- The root of an `f32` above zero, from the whole number nearest to the root of a square of 47 or 48 digits. Assumes nothing.
+-- The root of an `f32` above zero, from the whole number nearest to the root of a square of 47 or
+-- 48 digits. Assumes nothing.
 use mathlib.Core.Path.{◌≡◌, refl, sym, ap, ◌∙◌, subst}
 use mathlib.Core.Logic.{inl, inr}
 use Prim.Native.Nat.{ℕ, zero, suc, ◌+◌, ◌-◌, ◌*◌, ◌/◌, ◌^◌, ◌≤◌, ◌<◌, compare}

@@ -1,4 +1,5 @@
--- The patterns from the infinity's on, save its own and that of -0, are those of values with no root: NaNs, and numbers below zero. Assumes nothing.
+-- The patterns from the infinity's on, save its own and that of -0, are those of values with no
+-- root: NaNs, and numbers below zero. Assumes nothing.
 use mathlib.Core.Path.{◌≡◌, refl, sym, ap, ◌∙◌, subst}
 use Prim.Native.Nat.{ℕ, zero, suc, ◌+◌, ◌*◌, ◌/◌, ◌%◌, ◌^◌, ◌≤◌, ◌<◌}
 use native.Mathlib.Nat.{lt_irrefl, mul-pos, zero-mul, eq-zero-or-pos}

@@ -1,4 +1,5 @@
--- Whole roots and nearest roots: the 24 leading digits of a root, and which of two neighbours is the nearer, when the square is N * p * p. Assumes nothing.
+-- Whole roots and nearest roots: the 24 leading digits of a root, and which of two neighbours is
+-- the nearer, when the square is N * p * p. Assumes nothing.
 use mathlib.Core.Path.{◌≡◌, refl, sym, ap, ◌∙◌, subst}
 use mathlib.Core.Logic.{inl, inr}
 use Prim.Native.Nat.{ℕ, suc, ◌+◌, ◌*◌, ◌/◌, ◌≤◌, ◌<◌, compare, Ordering}

@@ -1,5 +1,5 @@
--- Whether all of a list is finite: what 11 asks of a curve's coordinates and 23 of a body's (document 01, 'Refused, and through whom').
--- Definitions only.
+-- Whether all of a list is finite: what 11 asks of a curve's coordinates and 23 of a body's
+-- (document 01, 'Refused, and through whom'). Definitions only.
 use Rattle.std.specs.Prelude.{Bool, List, Float, length, get_or}
 use Rattle.std.specs.Float.{nan}
 use Rattle.std.specs.Float.Ieee.Scale.{finite}

@@ -1,12 +1,15 @@
--- The whole part of a square root, by comparing squares (document 01, 'Arithmetic', Root: "defined over whole numbers by comparing squares").
-use Rattle.std.specs.Prelude.{ℕ, zero, suc, ◌+◌, ◌-◌, ◌*◌, ◌/◌, ◌^◌, ◌≤◌, ◌<◌, ◌≡◌, Bool, true, false, not, cond, T, leb}
+-- The whole part of a square root, by comparing squares (document 01, 'Arithmetic', Root: "defined
+-- over whole numbers by comparing squares").
+use Rattle.std.specs.Prelude.{ℕ, zero, suc, ◌+◌, ◌-◌, ◌*◌, ◌/◌, ◌^◌, ◌≤◌, ◌<◌, ◌≡◌}
+use Rattle.std.specs.Prelude.{Bool, true, false, not, cond, T, leb}
 use Rattle.std.proofs.Common.{sym, subst, lt_of_lt_of_le, arith, leb→le, lit≤}
 use Rattle.std.proofs.Math.Nat.{pow-le-pow_left}
 use Rattle.std.proofs.Math.Dec.{nleb→lt}
 use Rattle.std.specs.Float.Ieee.{size}
 use Rattle.std.specs.Float.Ieee.Digits.{size-lt}
 
--- The largest r with r * r ≤ n, for an n below 4 ^ d, a binary digit at a time: with r that of n / 4, it is 2 * r + 1 or 2 * r.
+-- The largest r with r * r ≤ n, for an n below 4 ^ d, a binary digit at a time: with r that of
+-- n / 4, it is 2 * r + 1 or 2 * r.
 unfoldable pub rootDigits : ℕ → ℕ → ℕ
 rootDigits zero n = 0
 rootDigits (suc d) n = let t = 2 * rootDigits d (n / 4) + 1 in cond (leb (t * t) n) t (t - 1)
@@ -20,7 +23,8 @@ pub record IsRoot (n r : ℕ) : Type 0 where
   pub under : r * r ≤ n
   pub over : n < (r + 1) * (r + 1)
 
-next-digit : (n r : ℕ) (b : Bool) → (T b → (2 * r + 1) * (2 * r + 1) ≤ n) → (T (not b) → n < (2 * r + 1) * (2 * r + 1)) → IsRoot (n / 4) r
+next-digit : (n r : ℕ) (b : Bool) → (T b → (2 * r + 1) * (2 * r + 1) ≤ n)
+    → (T (not b) → n < (2 * r + 1) * (2 * r + 1)) → IsRoot (n / 4) r
     → IsRoot n (cond b (2 * r + 1) (2 * r + 1 - 1))
 next-digit n r true y x i = let h = y tt in let u = i.over in record { under = h; over = omega arith }
 next-digit n r false y x i =
@@ -34,7 +38,8 @@ unfolding rootDigits
 digits_are zero n h = record { under = omega arith; over = omega arith }
 digits_are (suc d) n h =
     let r = rootDigits d (n / 4) in
-    next-digit n r (leb ((2 * r + 1) * (2 * r + 1)) n) (leb→le ((2 * r + 1) * (2 * r + 1)) n) (nleb→lt ((2 * r + 1) * (2 * r + 1)) n)
+    let t = 2 * r + 1 in
+    next-digit n r (leb (t * t) n) (leb→le (t * t) n) (nleb→lt (t * t) n)
     (digits_are d (n / 4) (omega arith))
 
 -- `wholeRoot` is what it is called

@@ -1,4 +1,5 @@
--- "+0 throughout": so many floats, each +0 (document 01, 'Refused, and through whom', 23). Definitions only.
+-- "+0 throughout": so many floats, each +0 (document 01, 'Refused, and through whom', 23).
+-- Definitions only.
 use Rattle.std.specs.Prelude.{List, [], ◌∷◌, ℕ, Float}
 use Rattle.std.specs.Float.{binary32}
 use Rattle.std.specs.Float.Ieee.{of_bits}

@@ -1,4 +1,5 @@
-// What the geometry takes from `f32` beyond its operators: the square root and bit patterns, defined for every value.
+// What the geometry takes from `f32` beyond its operators: the square root and bit patterns,
+// defined for every value.
 #![tactic(auto)]
 
 mod near;

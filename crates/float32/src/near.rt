@@ -1,11 +1,13 @@
-// The whole number nearest to a root: guessed, checked by comparing squares, and searched for where the guess is wrong.
+// The whole number nearest to a root: guessed, checked by comparing squares, and searched for
+// where the guess is wrong.
 ghost use Rattle.std.specs.Prelude.{◌<◌, ◌^◌};
 ghost use Rattle.float32.specs.Near.{Near};
 
-// About 2 ^ 29 + √z, for z from 1 to 4 with a pattern that is t · 2 ^ 29 past that of 1. The pattern of 1 / √z is near a constant less
-// half that of z: so y is near 1 / √z, d is near 1, and a polynomial in d mends s. Added to 2 ^ 29, the last digits of the pattern count
-// steps of 2 ^ -23, and half a step less makes the sum round down. The constants were fitted outside; nothing is promised of them, since
-// `near_root` checks what comes out.
+// About 2 ^ 29 + √z, for z from 1 to 4 with a pattern that is t · 2 ^ 29 past that of 1. The
+// pattern of 1 / √z is near a constant less half that of z: so y is near 1 / √z, d is near 1, and
+// a polynomial in d mends s. Added to 2 ^ 29, the last digits of the pattern count steps of
+// 2 ^ -23, and half a step less makes the sum round down. The constants were fitted outside;
+// nothing is promised of them, since `near_root` checks what comes out.
 pub(crate) fn guess(t: u64) -> f64
     requires { t < 2 ^ 24 }
 {
@@ -36,8 +38,9 @@ fn by_halves(n: u64) -> u64
     hi
 }
 
-// The whole number nearest to the root of n. The last digits of the guess are a number q, and it is q or q + 1 where the root is within
-// one of the middle between the two: w is the square of that middle, less 1/4.
+// The whole number nearest to the root of n. The last digits of the guess are a number q, and it
+// is q or q + 1 where the root is within one of the middle between the two: w is the square of
+// that middle, less 1/4.
 pub(crate) fn near_root(n: u64, d: f64) -> u64
     requires { (0 < n) × (n < 2 ^ 48) }
     ensures { Near n result }

@@ -3,7 +3,8 @@ ghost use Rattle.float32.specs.Scan.{allFinite};
 
 use crate::words::is_finite;
 
-// Whether every value is finite. It looks at all of them: without a way out the loop runs several at a time.
+// Whether every value is finite. It looks at all of them: without a way out the loop runs several
+// at a time.
 pub fn are_finite(values: &[f32]) -> bool
     ensures { result ≡ allFinite values.now }
 {

@@ -1,76 +1,41 @@
-// Prints hexadecimal words, and turns floats into words and back, for the programs whose output is
-// compared. What is printed is compared and not proved, so no function here says anything of it.
+// Writes hexadecimal words as lines, and turns floats into words and back, for the programs whose
+// output is compared. What is written is compared and not proved, so no function here says
+// anything of it.
 #![tactic(auto)]
 
 mod words;
 
-ghost use Rattle.std.specs.Prelude.{◌<◌};
+use std::io;
+use std::io::Write;
 
 pub use words::{from_words, to_words};
 
-// The last hexadecimal digit of d, in upper case.
-fn digit(d: u32) -> u8 {
-    let last = (d % 16) as u8;
-    if last < 10 {
-        return b'0' + last;
-    }
-    b'A' + (last - 10)
-}
-
-// Prints the eight digits of w, then `end`.
-fn print_word(w: u32, end: u8) {
-    let text = [
-        digit(w >> 28),
-        digit(w >> 24),
-        digit(w >> 20),
-        digit(w >> 16),
-        digit(w >> 12),
-        digit(w >> 8),
-        digit(w >> 4),
-        digit(w),
-        end,
-    ];
-    io::write_all(1, &text);
-}
-
-// What follows word i of n: a space, or `end` after the last.
-fn break_after(i: usize, n: usize, end: u8) -> u8
-    requires { i < n }
-{
-    if i + 1 < n {
-        return b' ';
-    }
-    end
-}
-
-// Prints the words with a space between each two, and `end` after the last: a space where more
+// Writes the words with a space between each two, and `end` after the last: a space where more
 // words follow, else the line's end.
-pub fn print_words(words: &[u32], end: u8) {
-    let mut i: usize = 0;
-    while i < words.len() {
-        print_word(words[i], break_after(i, words.len(), end));
-        i += 1;
+pub fn write_words<W: Write>(out: &mut W, words: &[u32], end: char) -> io::Result<()> {
+    for (i, word) in words.iter().enumerate() {
+        let after = if i + 1 < words.len() { ' ' } else { end };
+        write!(out, "{word:08X}{after}")?;
     }
+    Ok(())
 }
 
-// Prints the words three to a line: the vertices or the triangles that they are.
-pub fn print_triples(words: &[u32]) {
-    let mut i: usize = 0;
-    while i + 3 <= words.len() {
-        let end = i + 3;
-        print_words(&words[i..end], b'\n');
-        i = end;
+// Writes the words three to a line: the vertices or the triangles that they are.
+pub fn write_triples<W: Write>(out: &mut W, words: &[u32]) -> io::Result<()> {
+    for triple in words.chunks_exact(3) {
+        write_words(out, triple, '\n')?;
     }
+    Ok(())
 }
 
-// Prints the name of the kind that has the number `kind`, and a space.
-pub fn print_kind(kind: u32) {
+// The name of the kind that has the number `kind`.
+pub fn kind_name(kind: u32) -> &'static str {
     match kind {
-        1 => io::write_all(1, b"ribbon "),
-        2 => io::write_all(1, b"tube "),
-        3 => io::write_all(1, b"capsule "),
-        4 => io::write_all(1, b"torus "),
-        5 => io::write_all(1, b"closed_cylinder "),
-        _ => io::write_all(1, b"seamless_torus "),
-    };
+        1 => "ribbon",
+        2 => "tube",
+        3 => "capsule",
+        4 => "torus",
+        5 => "closed_cylinder",
+        _ => "seamless_torus",
+    }
 }

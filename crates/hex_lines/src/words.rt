@@ -7,10 +7,8 @@ use float32::{from_word, to_word};
 pub fn to_words(floats: &[f32], words: &mut [u32])
     requires { length floats.now ≡ length words.old }
 {
-    let mut i: usize = 0;
-    while i < floats.len() {
-        words[i] = to_word(floats[i]);
-        i += 1;
+    for (x, word) in floats.iter().zip(words) {
+        *word = to_word(*x);
     }
 }
 
@@ -18,9 +16,7 @@ pub fn to_words(floats: &[f32], words: &mut [u32])
 pub fn from_words(words: &[u32], floats: &mut [f32])
     requires { length words.now ≡ length floats.old }
 {
-    let mut i: usize = 0;
-    while i < words.len() {
-        floats[i] = from_word(words[i]);
-        i += 1;
+    for (word, x) in words.iter().zip(floats) {
+        *x = from_word(*word);
     }
 }

@@ -36,8 +36,8 @@ pub(crate) fn are_within(divisions: u16, round: Range, steps: u16, along: Range)
 
 // A product of two sizes, which fits whatever they are.
 pub(crate) fn product(a: u16, b: u32) -> u64
-    ensures value { result ≡ a * b }
-    ensures upper_bound { result < 2 ^ 48 }
+    ensures product { result ≡ a * b }
+    ensures below { result < 2 ^ 48 }
 {
     a as u64 * b as u64
 }

@@ -70,9 +70,9 @@ impl Topology {
 
     // Writes the body's triangles, with `first` added to each index, to the front of `out`.
     pub fn put_triangles(self, first: u32, out: &mut [u32])
-        requires self_value { permitted self ≡ true }
-        requires self_bound { first + vertexCount self ≤ mostInAll }
-        requires self_in_bounds { 3 * triangleCount self ≤ length out.old }
+        requires permission { permitted self ≡ true }
+        requires numbers { first + vertexCount self ≤ mostInAll }
+        requires within { 3 * triangleCount self ≤ length out.old }
         ensures { out.new
             ≡ overwrite 0 (flatten (shift first (trianglesOf self))) out.old }
     {
@@ -83,8 +83,8 @@ impl Topology {
     // nothing, where the body is not permitted, a vertex would be numbered 2^28 or above, or `out`
     // is too short.
     pub fn write_triangles(self, first: u32, out: &mut [u32]) -> bool
-        ensures value { result ≡ writable self first (length out.old) }
-        ensures out_after { out.new
+        ensures answer { result ≡ writable self first (length out.old) }
+        ensures written { out.new
             ≡ placed result (flatten (shift first (trianglesOf self))) out.old }
     {
         if self.is_permitted() {

@@ -8,7 +8,8 @@ word_of a b c d = a + 256 * (b + 256 * (c + 256 * d))
 
 -- the word whose bytes begin at a place, as a list of one
 abbrev pub word_at : List ℕ → ℕ → List ℕ
-word_at bytes at = word_of (get_or bytes at 0) (get_or bytes (at + 1) 0) (get_or bytes (at + 2) 0) (get_or bytes (at + 3) 0) ∷ []
+word_at bytes at =
+    word_of (get_or bytes at 0) (get_or bytes (at + 1) 0) (get_or bytes (at + 2) 0) (get_or bytes (at + 3) 0) ∷ []
 
 -- the whole words of a list of bytes
 abbrev pub words_in : List ℕ → List ℕ

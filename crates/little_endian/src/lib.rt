@@ -14,8 +14,8 @@ fn word(a: u8, b: u8, c: u8, d: u8) -> u32
 // Writes the whole words of `bytes` to the front of `out`; where it is too short, it answers false
 // and writes nothing.
 pub fn read_words(bytes: &[u8], out: &mut [u32]) -> bool
-    ensures value { result ≡ leb (length bytes.now / 4) (length out.old) }
-    ensures out_after { out.new ≡ placed result (words_in bytes.now) out.old }
+    ensures fits { result ≡ leb (length bytes.now / 4) (length out.old) }
+    ensures written { out.new ≡ placed result (words_in bytes.now) out.old }
 {
     let count = bytes.len() / 4;
     if count > out.len() {
@@ -43,8 +43,8 @@ fn put_word(out: &mut [u8], at: usize, w: u32)
 // Writes the words' bytes to the front of `out`; where it is too short, it answers false and
 // writes nothing.
 pub fn write_words(words: &[u32], out: &mut [u8]) -> bool
-    ensures value { result ≡ leb (length words.now) (length out.old / 4) }
-    ensures out_after { out.new ≡ placed result (bytesIn words.now) out.old }
+    ensures fits { result ≡ leb (length words.now) (length out.old / 4) }
+    ensures written { out.new ≡ placed result (bytesIn words.now) out.old }
 {
     if words.len() > out.len() / 4 {
         return false;

@@ -12,35 +12,23 @@ fn is_shifted(alone: u32, first: u32, word: u32) -> bool {
 pub(crate) fn compare_words(alone: &[u32], first: u32, set: &[u32]) -> Tally
     requires { length alone.now ≡ length set.now }
 {
-    let mut differing: u64 = 0;
-    let mut i: usize = 0;
-    while i < alone.len() {
-        if !is_shifted(alone[i], first, set[i]) {
-            differing += 1;
-        }
-        i += 1;
-    }
+    let pairs = alone.iter().zip(set);
+    let differing = pairs.filter(|(own, placed)| !is_shifted(**own, first, **placed));
     Tally {
-        bodies: i as u64,
+        bodies: alone.len() as u64,
         past: 0,
-        differing,
+        differing: differing.count() as u64,
     }
 }
 
 // Compares the words from place `end` on, where the set ends, with the buffer's pattern.
 pub(crate) fn compare_past(end: usize, start: u32, words: &[u32]) -> Tally {
-    let mut differing: u64 = 0;
-    let mut i = end;
-    while i < words.len() {
-        if words[i] != marker(start, i) {
-            differing += 1;
-        }
-        i += 1;
-    }
+    let past = words.iter().enumerate().skip(end);
+    let differing = past.filter(|(place, word)| **word != marker(start, *place));
     Tally {
         bodies: 0,
-        past: (i - end) as u64,
-        differing,
+        past: words.len().saturating_sub(end) as u64,
+        differing: differing.count() as u64,
     }
 }
 

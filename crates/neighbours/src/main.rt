@@ -16,6 +16,7 @@ use crate::compare::compare_wrong;
 use crate::loading::load;
 use crate::tally::Tally;
 use drawn_bodies::{drawn_triple, triple_of_kinds};
+use std::io;
 
 const TRIPLES_OF_KINDS: u32 = 216;
 
@@ -27,10 +28,8 @@ const FIRST_STATE: u32 = 644;
 
 fn load_kinds() -> Tally {
     let mut sum = Tally::differences(0);
-    let mut i: u32 = 0;
-    while i < TRIPLES_OF_KINDS {
-        sum = sum.plus(load(triple_of_kinds(i)));
-        i += 1;
+    for number in 0..TRIPLES_OF_KINDS {
+        sum = sum.plus(load(triple_of_kinds(number)));
     }
     sum
 }
@@ -38,30 +37,27 @@ fn load_kinds() -> Tally {
 fn load_drawn() -> Tally {
     let mut sum = Tally::differences(0);
     let mut state = FIRST_STATE;
-    let mut i: u32 = 0;
-    while i < DRAWN_TRIPLES {
+    for _ in 0..DRAWN_TRIPLES {
         let triple = drawn_triple(state);
         sum = sum.plus(load(triple));
         state = triple.last.seed;
-        i += 1;
     }
     sum
 }
 
-fn print_line(name: &[u8], triples: u32, tally: Tally) {
-    io::write_all(1, name);
-    io::print_decimal(1, triples as u64);
-    io::write_all(1, b" triples, ");
-    io::print_decimal(1, tally.bodies);
-    io::write_all(1, b" elements of bodies, ");
-    io::print_decimal(1, tally.past);
-    io::write_all(1, b" past them, ");
-    io::print_decimal(1, tally.differing);
-    io::write_all(1, b" differ\n");
+fn print_line(rt: &impl Print, name: &str, triples: u32, tally: Tally) -> io::Result<()> {
+    let Tally {
+        bodies,
+        past,
+        differing,
+    } = tally;
+    println!(rt;
+        "{name}: {triples} triples, {bodies} elements of bodies, {past} past them, {differing} differ"
+    )
 }
 
-fn main() {
-    print_line(b"kinds: ", TRIPLES_OF_KINDS, load_kinds());
-    print_line(b"drawn: ", DRAWN_TRIPLES, load_drawn());
-    print_line(b"wrong: ", 0, compare_wrong());
+fn main(rt: HostRuntime) -> io::Result<()> {
+    print_line(&rt, "kinds", TRIPLES_OF_KINDS, load_kinds())?;
+    print_line(&rt, "drawn", DRAWN_TRIPLES, load_drawn())?;
+    print_line(&rt, "wrong", 0, compare_wrong())
 }

@@ -1,6 +1,5 @@
 // What the buffers hold before anything is loaded: each buffer has its own pattern, with another
 // word at each place.
-use std::num::wrapping_add_u32;
 
 // The first word of each buffer's pattern. No word of a table and no index is as large, and the
 // vertices' pattern begins at the bits of 2^23, where no vertex lies.
@@ -12,14 +11,12 @@ pub(crate) const TRIANGLES: u32 = 0x7100_0000;
 
 // The word at a place of the pattern that begins with `start`.
 pub(crate) fn marker(start: u32, place: usize) -> u32 {
-    wrapping_add_u32(start, (place % 65536) as u32)
+    start.wrapping_add((place % 65536) as u32)
 }
 
 // Fills the buffer with the pattern that begins with `start`.
 pub(crate) fn mark(start: u32, words: &mut [u32]) {
-    let mut i: usize = 0;
-    while i < words.len() {
-        words[i] = marker(start, i);
-        i += 1;
+    for (place, word) in words.iter_mut().enumerate() {
+        *word = marker(start, place);
     }
 }

@@ -6,7 +6,6 @@ use crate::compare::{compare_past, compare_words};
 use crate::markers;
 use crate::tally::Tally;
 use drawn_bodies::{Case, Counts, Triple, write_alone};
-use std::num::wrapping_add_u32;
 
 // Room for the coordinates of a body alone, and for its indices.
 const ELEMENTS: usize = 4095;
@@ -21,7 +20,7 @@ struct Compared {
 // Compares the entry of body j, whose vertices and triangles come after `first`.
 fn compare_entry(case: Case, j: usize, first: Counts, own: Counts, table: &[u32]) -> Tally
     requires j_bound { j < 3 }
-    requires value { 385 ≡ length table.now }
+    requires table_length { 385 ≡ length table.now }
 {
     let start = 1 + 6 * j;
     let end = start + 6;
@@ -62,7 +61,7 @@ fn compare_body(
     triangles: &[u32],
 ) -> Compared
     requires j_bound { j < 3 }
-    requires value { 385 ≡ length table.now }
+    requires table_length { 385 ≡ length table.now }
 {
     let mut shape = [0u32; ELEMENTS];
     let mut indices = [0u32; ELEMENTS];
@@ -74,8 +73,8 @@ fn compare_body(
     Compared {
         tally: entry.plus(drawn).plus(joined),
         totals: Counts {
-            vertices: wrapping_add_u32(vertex, own.vertices),
-            triangles: wrapping_add_u32(first.triangles, own.triangles),
+            vertices: vertex.wrapping_add(own.vertices),
+            triangles: first.triangles.wrapping_add(own.triangles),
         },
     }
 }

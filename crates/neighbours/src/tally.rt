@@ -1,5 +1,3 @@
-use std::num::wrapping_add_u64;
-
 // How many elements of bodies and how many past them were compared, and how many of all these
 // differ.
 #[derive(Clone, Copy)]
@@ -22,9 +20,9 @@ impl Tally {
     // The sums of both. They stay far below 2^64, where they would wrap.
     pub(crate) fn plus(self, more: Tally) -> Tally {
         Tally {
-            bodies: wrapping_add_u64(self.bodies, more.bodies),
-            past: wrapping_add_u64(self.past, more.past),
-            differing: wrapping_add_u64(self.differing, more.differing),
+            bodies: self.bodies.wrapping_add(more.bodies),
+            past: self.past.wrapping_add(more.past),
+            differing: self.differing.wrapping_add(more.differing),
         }
     }
 }

@@ -20,7 +20,8 @@ fn write_cap(
     n: u16,
     turns: &[f32],
 )
-    requires { (longitudes * (n * 3) ≤ length out.old) × Turns n turns.now }
+    requires room { longitudes * (n * 3) ≤ length out.old }
+    requires turned { Turns n turns.now }
     ensures { out.new ≡ overwrite 0 (capRings end axes radius longitudes n) out.old }
 {
     let size = n as usize * 3;
@@ -49,7 +50,8 @@ pub fn write_bottom(
     n: u16,
     turns: &[f32],
 )
-    requires { (longitudes * (n * 3) + 3 ≤ length out.old) × Turns n turns.now }
+    requires room { longitudes * (n * 3) + 3 ≤ length out.old }
+    requires turned { Turns n turns.now }
     ensures { out.new ≡ overwrite 0 (endVertices Bottom axes radius longitudes n) out.old }
 {
     put_point(out, 0, axes.origin.sub(axes.ez.scale(radius)));
@@ -67,7 +69,8 @@ pub fn write_bottom(
 // Writes what stands at the last vertex of a capsule's curve to the front of `out`: the rings of
 // the top cap, then the top pole.
 pub fn write_top(out: &mut [f32], axes: Axes, radius: f32, longitudes: u16, n: u16, turns: &[f32])
-    requires { (longitudes * (n * 3) + 3 ≤ length out.old) × Turns n turns.now }
+    requires room { longitudes * (n * 3) + 3 ≤ length out.old }
+    requires turned { Turns n turns.now }
     ensures { out.new ≡ overwrite 0 (endVertices Top axes radius longitudes n) out.old }
 {
     write_cap(out, End::Top, axes, radius, longitudes, n, turns);

@@ -14,9 +14,10 @@ use vec3::Direction;
 // Writes the first vertices of a ring of `n`, four at a time, from index `at` on, and answers how
 // many it wrote.
 fn write_fours(out: &mut [f32], at: usize, ring: Ring, n: usize, turns: &[f32]) -> usize
-    requires { (at + n * 3 ≤ length out.old) × Turns n turns.now }
-    ensures upper_bound { result ≤ n }
-    ensures out_after { out.new ≡ overwrite at (blocks result (vertexOn (ringVertex ring) n)) out.old }
+    requires room { at + n * 3 ≤ length out.old }
+    requires turned { Turns n turns.now }
+    ensures within { result ≤ n }
+    ensures written { out.new ≡ overwrite at (blocks result (vertexOn (ringVertex ring) n)) out.old }
 {
     let mut place = at;
     let mut k: usize = 0;
@@ -33,7 +34,9 @@ fn write_fours(out: &mut [f32], at: usize, ring: Ring, n: usize, turns: &[f32]) 
 
 // Writes the vertices `from` to n − 1 of a ring of `n` that begins at index `at`.
 fn write_rest(out: &mut [f32], at: usize, ring: Ring, from: usize, n: usize, turns: &[f32])
-    requires { (from ≤ n) × (at + n * 3 ≤ length out.old) × Turns n turns.now }
+    requires from_within { from ≤ n }
+    requires room { at + n * 3 ≤ length out.old }
+    requires turned { Turns n turns.now }
     ensures { let rest = blocks (n - from) (λ j. vertexOn (ringVertex ring) n (from + j)) in
         out.new ≡ overwrite (at + from * 3) rest out.old }
 {
@@ -49,7 +52,8 @@ fn write_rest(out: &mut [f32], at: usize, ring: Ring, from: usize, n: usize, tur
 
 // Writes a ring of `n` vertices from index `at` on.
 pub fn write_ring(out: &mut [f32], at: usize, ring: Ring, n: usize, turns: &[f32])
-    requires { (at + n * 3 ≤ length out.old) × Turns n turns.now }
+    requires room { at + n * 3 ≤ length out.old }
+    requires turned { Turns n turns.now }
     ensures { out.new ≡ overwrite at (ringOf (ringVertex ring) n) out.old }
 {
     let written = write_fours(out, at, ring, n, turns);
@@ -58,7 +62,8 @@ pub fn write_ring(out: &mut [f32], at: usize, ring: Ring, n: usize, turns: &[f32
 
 // Writes a closed cylinder's ring of `n` vertices at height `y`, from index `at` on.
 pub(crate) fn write_level(out: &mut [f32], at: usize, radius: f32, y: f32, n: usize, turns: &[f32])
-    requires { (at + n * 3 ≤ length out.old) × Turns n turns.now }
+    requires room { at + n * 3 ≤ length out.old }
+    requires turned { Turns n turns.now }
     ensures { out.new ≡ overwrite at (ringOf (levelAt radius y) n) out.old }
 {
     let mut k: usize = 0;

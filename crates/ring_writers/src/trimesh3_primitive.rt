@@ -9,6 +9,7 @@ use crate::turns::{TURN_FLOATS, fill_turns};
 use vec3::Point;
 
 // The height of the bottom: the cylinder stands on height 0, or is centred there.
+#[tactic(auto, unfolding(crate::specs::ClosedCylinder::low_of))]
 fn low(centred: bool, height: f32) -> f32
     ensures { result ≡ low_of centred height }
 {
@@ -25,7 +26,9 @@ fn write_levels(
     n: u16,
     turns: &[f32],
 )
-    requires { (layers ≤ 4096) × ((layers + 1) * (n * 3) ≤ length out.old) × Turns n turns.now }
+    requires layers_permitted { layers ≤ 4096 }
+    requires room { (layers + 1) * (n * 3) ≤ length out.old }
+    requires turned { Turns n turns.now }
     ensures { out.new ≡ overwrite 0 (cylinderRings radius low height layers n) out.old }
 {
     let step = height / layers as f32;
@@ -49,7 +52,9 @@ pub fn cylinder_closed_end_yup(
     layers: u16,
     centred: bool,
 )
-    requires { (n ≤ 256) × (layers ≤ 4096) × ((layers + 1) * (n * 3) + 6 ≤ length out.old) }
+    requires divisions_permitted { n ≤ 256 }
+    requires layers_permitted { layers ≤ 4096 }
+    requires room { (layers + 1) * (n * 3) + 6 ≤ length out.old }
     ensures { out.new
         ≡ overwrite 0 (cylinderVertices radius height n layers centred) out.old }
 {

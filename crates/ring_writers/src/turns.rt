@@ -15,7 +15,8 @@ pub const TURN_FLOATS: usize = 1536;
 // index 3i on, and its sine three times, from index SINES + 3i on, so that a vertex multiplies
 // point by point. A body fills it once, for all its rings.
 pub fn fill_turns(n: u16, turns: &mut [f32])
-    requires { (n ≤ 256) × (1536 ≤ length turns.old) }
+    requires most { n ≤ 256 }
+    requires room { 1536 ≤ length turns.old }
     ensures { Turns n turns.new }
 {
     let mut place: usize = 0;

@@ -1,2 +1,1 @@
 pub mod RingVertices
-mod Terms

@@ -1,7 +1,5 @@
 -- The rings of a tube, a torus and a cap have the vertices of the definitions. Assumes nothing.
-use mathlib.Core.Path.{◌≡◌, refl, ap, ◌∙◌}
-use Prim.Native.Nat.{ℕ}
-use lib.Ieee.{Float}
+use Rattle.std.proofs.Common.{◌≡◌, refl, ap, ◌∙◌, ℕ, Float}
 use Rattle.surface.specs.declared.caps.End.{End}
 use Rattle.surface.specs.declared.caps.End.TheVariants.{Bottom, Top}
 use Rattle.vec3.specs.Points.{thrice, scaled, productOf}

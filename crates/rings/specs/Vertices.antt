@@ -54,7 +54,8 @@ capVertex Top a r L j = topVertex a r (turn_of j (4 * L))
 unfoldable pub torusVertex : Axes → Float → Direction → Point
 torusVertex a r d = sum_of a.origin (scaled (sum_of (scaled a.ex d.cos) (scaled a.ey d.sin)) r)
 
--- Closed cylinder: "ring g: (r·C, low + (length/S)·g, r·Sn)", at any height y, and at that of ring g.
+-- Closed cylinder: "ring g: (r·C, low + (length/S)·g, r·Sn)", at any height y, and at that of
+-- ring g.
 unfoldable pub levelAt : Float → Float → Direction → Point
 levelAt r y d = record { x = times r d.cos; y = y; z = times r d.sin }
 

@@ -14,6 +14,7 @@ pub struct Axes {
 
 impl Axes {
     // The axes at `origin`, with ex from the frame there.
+    #[tactic(auto, unfolding(crate::specs::Axes::axesAt))]
     pub fn at(origin: Point, frame: Frame, ez: Point) -> Axes
         ensures { result ≡ axesAt origin frame ez }
     {
@@ -29,6 +30,7 @@ impl Axes {
 
 // ez at a vertex of an open curve that lies between segments along `u` and `w`: `framez` of
 // polyline3.
+#[tactic(auto, unfolding(crate::specs::Axes::betweenOf))]
 pub fn framez(u: Point, w: Point) -> Point
     ensures { result ≡ betweenOf u w }
 {

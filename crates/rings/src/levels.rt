@@ -4,6 +4,7 @@ ghost use Rattle.rings.specs.Vertices.{levelAt};
 use vec3::{Direction, Point};
 
 // The vertex in direction `d` of a closed cylinder's ring at height `y`.
+#[tactic(auto, unfolding(crate::specs::Vertices::levelAt))]
 pub fn level(radius: f32, y: f32, d: Direction) -> Point
     ensures { result ≡ levelAt radius y d }
 {

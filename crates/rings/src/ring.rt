@@ -26,6 +26,7 @@ pub struct Ring {
 
 impl Ring {
     // The ring round a centre, in the plane of the axes' ex and ey.
+    #[tactic(auto, unfolding(crate::specs::Rings::ringAround))]
     pub fn around(order: Order, axes: Axes, centre: Point, radius: f32) -> Ring
         ensures { result ≡ ringAround order axes centre radius }
     {
@@ -43,6 +44,7 @@ impl Ring {
     // Adds two terms to the centre, one after the other. A term is an axis by the radius by a
     // cosine or a sine. These come as points that hold them three times, because the processor
     // then works out the coordinates of several vertices alike, several at a time.
+    #[tactic(auto, unfolding(crate::specs::Rings::twoTerms))]
     fn two_terms(self, first: Point, a: Point, second: Point, b: Point) -> Point
         ensures { result ≡ twoTerms self first a second b }
     {
@@ -52,6 +54,7 @@ impl Ring {
             .add(second.product(r.product(b)))
     }
 
+    #[tactic(auto, unfolding(crate::specs::Rings::sumFirst))]
     fn sum_first(self, cos: Point, sin: Point) -> Point
         ensures { result ≡ sumFirst self cos sin }
     {

@@ -10,9 +10,11 @@ use vec3::{Frame, Point};
 // Writes the frames that are carried along the `count` segments, one after the other, to the front
 // of `frames`, and answers what is carried on the last segment.
 pub(crate) fn fill_frames(count: u16, directions: &[f32], frames: &mut [f32]) -> Carried
-    requires { (1 ≤ count) × (count * 3 ≤ length directions.now) × (count * 3 ≤ length frames.old) }
-    ensures value { result ≡ carriedIn directions.now (count - 1) }
-    ensures frames_after { let table = framesIn directions.now count in
+    requires segment { 1 ≤ count }
+    requires directions_room { count * 3 ≤ length directions.now }
+    requires room { count * 3 ≤ length frames.old }
+    ensures carried { result ≡ carriedIn directions.now (count - 1) }
+    ensures written { let table = framesIn directions.now count in
         frames.new ≡ overwrite 0 table frames.old }
 {
     let mut carried = Carried::first(point(directions, 0));

@@ -19,9 +19,10 @@ use vec3::Frame;
 // Fills the table of frames and finds the twist of the loop.
 // The curve is here only so that the contract can name it.
 fn find_twist(curve: &[f32], count: u16, directions: &[f32], frames: &mut [f32]) -> Found
-    requires le_count { (1 ≤ count) × DirectionTable Closed count curve.now directions.now }
-    requires count_in_bounds { count * 3 ≤ length frames.old }
-    ensures value { result ≡ foundFor (endsOf count curve.now).c0 (endsOf count curve.now).s0 }
+    requires segment { 1 ≤ count }
+    requires table { DirectionTable Closed count curve.now directions.now }
+    requires frames_room { count * 3 ≤ length frames.old }
+    ensures found { result ≡ foundFor (endsOf count curve.now).c0 (endsOf count curve.now).s0 }
     ensures frame_table { FrameTable count curve.now frames.new }
 {
     let last = fill_frames(count, directions, frames);
@@ -45,7 +46,7 @@ fn write_rings(
 )
     requires closed_sweep { ClosedSweep sweep curve.now directions.now turns.now }
     requires frame_table { FrameTable sweep.segments curve.now frames.now }
-    requires divisions_in_bounds { sweep.segments * (sweep.divisions * 3) ≤ length out.old }
+    requires room { sweep.segments * (sweep.divisions * 3) ≤ length out.old }
     ensures { let c = curve.now in
         let rings = seamlessVertices twist sweep.divisions sweep.radius sweep.segments c in
         out.new ≡ overwrite 0 rings out.old }
@@ -91,8 +92,10 @@ pub fn to_trimesh3_seamless_torus(
     n: u16,
     r: f32,
 )
-    requires closed_curve { ClosedCurve curve.now directions.now × (verticesIn curve.now * 3 ≤ length frames.old) }
-    requires n_bound { (n ≤ 256) × (verticesIn curve.now * (n * 3) ≤ length out.old) }
+    requires closed_curve { ClosedCurve curve.now directions.now }
+    requires frames_room { verticesIn curve.now * 3 ≤ length frames.old }
+    requires divisions_permitted { n ≤ 256 }
+    requires room { verticesIn curve.now * (n * 3) ≤ length out.old }
     ensures { let c = curve.now in
         let N = verticesIn c in
         out.new

@@ -8,6 +8,7 @@ use descriptions::LAST_KIND;
 
 // Whether an entry has a known kind and may follow bodies that have `vertices` vertices and
 // `triangles` triangles.
+#[tactic(auto, unfolding(crate::specs::Table::entrySound))]
 fn is_entry_sound(entry: Entry, vertices: usize, triangles: usize) -> bool
     ensures { result ≡ entrySound entry vertices triangles }
 {

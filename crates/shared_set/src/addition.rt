@@ -29,8 +29,8 @@ fn append_fitting(
     triangles: &mut [u32],
 ) -> Outcome
     requires shape_permitted { ShapePermitted description (length curve.now / 3) }
-    requires body_value { body ≡ topologyOf description (length curve.now / 3) }
-    requires fact { let lent = lengthsOf (buffers table.old vertices.old triangles.old) in
+    requires body_described { body ≡ topologyOf description (length curve.now / 3) }
+    requires room { let lent = lengthsOf (buffers table.old vertices.old triangles.old) in
         Fits lent totals (vertexCount body) (triangleCount body) }
     ensures { let c = curve.now in
         after (outcomeAnswer result) table.new vertices.new triangles.new

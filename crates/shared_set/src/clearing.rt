@@ -6,7 +6,7 @@ use answers::{Outcome, Refusal};
 
 // Empties the set: sets word 0 to 0, whatever the table holds. An empty table is refused (1).
 pub fn clear(table: &mut [u32]) -> Outcome
-    ensures result_value { outcomeAnswer result ≡ clearAnswer table.old }
+    ensures answer { outcomeAnswer result ≡ clearAnswer table.old }
     ensures table_after { table.new ≡ cleared table.old }
 {
     if table.len() == 0 {

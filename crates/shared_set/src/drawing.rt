@@ -20,9 +20,9 @@ use set_table::Totals;
 // Answers whether all floats of a body's vertices are finite. If one is not (23), it sets the
 // body's whole stretch of the buffer to +0.
 fn zero_unless_finite(first: usize, body: Topology, vertices: &mut [f32]) -> bool
-    requires body_bound { first + vertexCount body ≤ mostInAll }
-    requires body_in_bounds { 3 * (first + vertexCount body) ≤ length vertices.old }
-    ensures value { result ≡ allFinite (part (3 * first) (3 * vertexCount body) vertices.old) }
+    requires few_vertices { first + vertexCount body ≤ mostInAll }
+    requires vertices_room { 3 * (first + vertexCount body) ≤ length vertices.old }
+    ensures answer { result ≡ allFinite (part (3 * first) (3 * vertexCount body) vertices.old) }
     ensures vertices_after { let drawn = part (3 * first) (3 * vertexCount body) vertices.old in
         vertices.new ≡ overwrite (3 * first) (cond result drawn (zeros (length drawn))) vertices.old }
 {
@@ -46,10 +46,10 @@ pub(crate) fn draw(
     vertices: &mut [f32],
 ) -> Outcome
     requires shape_permitted { ShapePermitted description (length curve.now / 3) }
-    requires body_value { body ≡ topologyOf description (length curve.now / 3) }
-    requires body_bound { totals.vertices + vertexCount body ≤ mostInAll }
-    requires body_in_bounds { 3 * (totals.vertices + vertexCount body) ≤ length vertices.old }
-    ensures result_value { let c = curve.now in
+    requires body_described { body ≡ topologyOf description (length curve.now / 3) }
+    requires few_vertices { totals.vertices + vertexCount body ≤ mostInAll }
+    requires vertices_room { 3 * (totals.vertices + vertexCount body) ≤ length vertices.old }
+    ensures answer { let c = curve.now in
         outcomeAnswer result ≡ first_of (foldTests description c ++ finiteTests (taken description c)) tt }
     ensures vertices_after { vertices.new
         ≡ verticesAfter (outcomeAnswer result) totals (bodyAlone (taken description curve.now))

@@ -21,11 +21,12 @@ pub(crate) fn place(
     table: &mut [u32],
     triangles: &mut [u32],
 )
-    requires body_value { permitted body ≡ true }
-    requires bodies_lt_most_bodies { (totals.bodies < mostBodies) × (tableWords (totals.bodies + 1) ≤ length table.old) }
-    requires body_bound { totals.vertices + vertexCount body ≤ mostInAll }
-    requires body_bound_2 { (totals.triangles + triangleCount body ≤ mostInAll)
-        × (3 * (totals.triangles + triangleCount body) ≤ length triangles.old) }
+    requires body_permitted { permitted body ≡ true }
+    requires few_bodies { totals.bodies < mostBodies }
+    requires table_room { tableWords (totals.bodies + 1) ≤ length table.old }
+    requires few_vertices { totals.vertices + vertexCount body ≤ mostInAll }
+    requires few_triangles { totals.triangles + triangleCount body ≤ mostInAll }
+    requires triangles_room { 3 * (totals.triangles + triangleCount body) ≤ length triangles.old }
     ensures table_after { let entry = entryWith totals (kindNumber description) (divisionsOf description)
         (vertexCount body) (triangleCount body) in
         table.new ≡ withEntry totals.bodies entry table.old }

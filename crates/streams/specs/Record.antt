@@ -1,11 +1,37 @@
--- What a read of the next record says of the words that it leaves. Which record the input had, no
--- contract can say. Definitions only.
-use Rattle.std.specs.Prelude.{◌≡◌, List, ℕ, ◌≤◌, ◌<◌, length, take}
-use Rattle.records.specs.Records.{recordWords}
+-- What a read of the next record says of the words that it leaves, and, where the bytes of the input are known, which
+-- of them these words are. Definitions only.
+use Rattle.std.specs.Prelude.{◌≡◌, List, [], ℕ, ◌*◌, ◌≤◌, ◌<◌, length, take, IfSome}
+use Rattle.std.specs.declared.option.Option.{Option}
+use Rattle.std.specs.Io.KnownBytes.{Consumes}
+use Rattle.little_endian.specs.Words.{words_in}
+use Rattle.records.specs.Records.{headWords, mostVertices, verticesNamed, recordWords}
 use Rattle.streams.specs.declared.record.Next.{Next}
-use Rattle.streams.specs.declared.record.Next.TheVariants.{Record, Stop}
+use Rattle.streams.specs.declared.record.Next.TheVariants.{Record, Stop as StopsFor}
+use Rattle.streams.specs.declared.record.Stop.{Stop}
+use Rattle.streams.specs.declared.record.Stop.TheVariants.{End, Short, TooLong, Failed}
 
 -- a record of `count` words is at their front, whole and alone
 abbrev pub ReadAs : Next → List ℕ → Type 0
 ReadAs (Record count) words = (0 < count) × (count ≤ length words) × (count ≡ recordWords (take count words))
-ReadAs (Stop why) words = Unit
+ReadAs (StopsFor why) words = Unit
+
+-- "a curve count over 512"
+abbrev pub NamesTooMany : List ℕ → Type 0
+NamesTooMany words = (headWords ≤ length words) × (mostVertices < verticesNamed words)
+
+-- "a short record"
+abbrev pub IsCutShort : List ℕ → Type 0
+IsCutShort words = (recordWords words ≡ 0) × (headWords ≤ length words → verticesNamed words ≤ mostVertices)
+
+-- why the reading stops before these bytes, which are all that is left of an input
+abbrev pub StopsBefore : Stop → List ℕ → Type 0
+StopsBefore End bytes = bytes ≡ []
+StopsBefore Short bytes = (0 < length bytes) × IsCutShort (words_in bytes)
+StopsBefore TooLong bytes = NamesTooMany (words_in bytes)
+StopsBefore (Failed error) bytes = Unit
+
+-- the known bytes lost those of the record, whose words are at the front of `words`; or they begin with no record
+abbrev pub ReadFrom : Option (List ℕ) → Option (List ℕ) → Next → List ℕ → Type 0
+ReadFrom old new (Record count) words =
+    (bytes : List ℕ) × Consumes old new bytes × (length bytes ≡ 4 * count) × (words_in bytes ≡ take count words)
+ReadFrom old new (StopsFor why) words = IfSome old (StopsBefore why)

@@ -1,14 +1,19 @@
-// Reads a stream and writes one, over the C library's read and write: bytes, until a buffer is
-// full or empty, and records. A call that a signal interrupts is made again. If a call fails,
-// `os::errno` says why until the next one.
+// Reads a stream and writes one: bytes, until a buffer is full or empty, and records. A call that
+// a signal interrupts is made again. Where the bytes of a reader or a writer are known, as those
+// of memory are, the contracts name them.
 #![tactic(auto)]
 
 mod record;
 
-ghost use Rattle.streams.specs.Filled.{FilledIn};
-ghost use Rattle.std.specs.Prelude.{length};
+ghost use Rattle.std.specs.Prelude.{◌≡◌, ◌≢◌, ◌↔◌, length, IsTrue, IfErr, OnOk, OnErr};
+ghost use Rattle.std.specs.IoError.{error_kind};
+ghost use Rattle.std.specs.Io.{ReadsAtMost, WritesAtMost};
+ghost use Rattle.std.specs.Io.KnownBytes.{Appends, ReadConsumes, WriteAppends};
+ghost use Rattle.streams.specs.Filled.{FilledIn, FilledFrom, AppendsFront};
 
 pub use record::{Next, RECORD_BYTES, RECORD_WORDS, Stop, read_record};
+use std::io;
+use std::io::{Error, ErrorKind, Read, Write};
 
 // How far a buffer was filled.
 #[derive(Clone, Copy)]
@@ -17,71 +22,97 @@ pub enum Filled {
     Full,
     // The input ended after this number of bytes.
     Ended(usize),
-    // A read failed.
-    Failed,
+    // A read failed, and why.
+    Failed(Error),
 }
 
-// Whether a signal interrupted the call that answered `got` before it moved a byte.
-fn is_interrupted(got: isize) -> bool {
-    if got >= 0 {
-        return false;
-    }
-    os::errno() == libc::EINTR
+// Whether a signal interrupted the call that gave this error, before it moved a byte.
+fn is_interrupted(error: &Error) -> bool
+    ensures { IsTrue result ↔ (error_kind error.now ≡ ErrorKind.Interrupted) }
+{
+    error.kind() == ErrorKind::Interrupted
+}
+
+// What a call comes to that signals interrupt for ever.
+fn gave_up() -> Error
+    ensures { error_kind result ≢ ErrorKind.Interrupted }
+{
+    Error::new(ErrorKind::TimedOut, "interrupted 2^64 times")
 }
 
 // Reads once to the front of `buf`, again after each interruption. The count ends the loop if the
 // interruptions never do.
-fn read_some(fd: i32, buf: &mut [u8]) -> isize {
-    let mut got = libc::read(fd, buf);
-    let mut turns = u64::MAX;
-    while turns > 0 && is_interrupted(got) {
-        got = libc::read(fd, buf);
-        turns -= 1;
+fn read_some<R: Read>(input: &mut R, buf: &mut [u8]) -> io::Result<usize>
+    ensures bound { ReadsAtMost result buf.new }
+    ensures bytes { ReadConsumes (R.remaining input.old) (R.remaining input.new) result buf.new }
+    ensures made_again { IfErr result (λ e. error_kind e ≢ ErrorKind.Interrupted) }
+{
+    for _ in 0..u64::MAX {
+        match input.read(buf) {
+            Ok(count) => return Ok(count),
+            Err(error) => {
+                if !is_interrupted(&error) {
+                    return Err(error);
+                }
+            }
+        }
     }
-    got
+    Err(gave_up())
 }
 
 // Writes once from the front of `buf`, again after each interruption.
-fn write_some(fd: i32, buf: &[u8]) -> isize {
-    let mut put = libc::write(fd, buf);
-    let mut turns = u64::MAX;
-    while turns > 0 && is_interrupted(put) {
-        put = libc::write(fd, buf);
-        turns -= 1;
+fn write_some<W: Write>(output: &mut W, buf: &[u8]) -> io::Result<usize>
+    ensures bound { WritesAtMost result buf.now }
+    ensures bytes { WriteAppends (W.contents output.old) (W.contents output.new) result buf.now }
+    ensures made_again { IfErr result (λ e. error_kind e ≢ ErrorKind.Interrupted) }
+{
+    for _ in 0..u64::MAX {
+        match output.write(buf) {
+            Ok(count) => return Ok(count),
+            Err(error) => {
+                if !is_interrupted(&error) {
+                    return Err(error);
+                }
+            }
+        }
     }
-    put
+    Err(gave_up())
 }
 
 // Reads until `buf` is full, the input ends or a read fails.
-pub fn read_full(fd: i32, buf: &mut [u8]) -> Filled
-    ensures { FilledIn result (length buf.old) }
+pub fn read_full<R: Read>(input: &mut R, buf: &mut [u8]) -> Filled
+    ensures count { FilledIn result (length buf.old) }
+    ensures bytes { FilledFrom (R.remaining input.old) (R.remaining input.new) result buf.new }
 {
     let mut done: usize = 0;
     while done < buf.len() {
-        let got = read_some(fd, &mut buf[done..]);
-        if got < 0 {
-            return Filled::Failed;
+        match read_some(input, &mut buf[done..]) {
+            Err(error) => return Filled::Failed(error),
+            Ok(more) => {
+                if more == 0 {
+                    return Filled::Ended(done);
+                }
+                done += more;
+            }
         }
-        let more = io::count(got, &buf[done..]);
-        if more == 0 {
-            return Filled::Ended(done);
-        }
-        done += more;
     }
     Filled::Full
 }
 
-// Writes all of `buf` and answers true. Answers false at the first write that fails or takes
-// nothing, when some of `buf` may have been written.
-pub fn write_all(fd: i32, buf: &[u8]) -> bool {
+// Writes all of `buf`. Where a write fails or takes nothing, the front of `buf` may have been
+// written, and nothing else.
+pub fn write_all<W: Write>(output: &mut W, buf: &[u8]) -> io::Result<()>
+    ensures whole { OnOk result (Appends (W.contents output.old) (W.contents output.new) buf.now) }
+    ensures front { OnErr result
+        (AppendsFront (W.contents output.old) (W.contents output.new) buf.now) }
+{
     let mut done: usize = 0;
     while done < buf.len() {
-        let put = write_some(fd, &buf[done..]);
-        let taken = io::count(put, &buf[done..]);
+        let taken = write_some(output, &buf[done..])?;
         if taken == 0 {
-            return false;
+            return Err(Error::new(ErrorKind::WriteZero, "no byte was taken"));
         }
         done += taken;
     }
-    true
+    Ok(())
 }

@@ -1,10 +1,13 @@
-ghost use Rattle.std.specs.Prelude.{◌≡◌, ◌≤◌, length};
-ghost use Rattle.streams.specs.Record.{ReadAs};
+ghost use Rattle.std.specs.Prelude.{◌≡◌, ◌≤◌, length, take};
+ghost use Rattle.std.specs.Io.KnownBytes.{prepend_known};
+ghost use Rattle.little_endian.specs.Words.{words_in};
+ghost use Rattle.records.specs.Records.{lengthNamed};
+ghost use Rattle.streams.specs.Record.{ReadAs, ReadFrom};
 
 use crate::{Filled, read_full};
-use libc::STDIN_FILENO;
 use little_endian::read_words;
-use records::{HEAD_WORDS, record_length, record_words};
+use records::{HEAD_WORDS, record_length};
+use std::io::{Error, Read};
 
 // The words of the longest record: a head and 512 vertices.
 pub const RECORD_WORDS: usize = 7 + 3 * 512;
@@ -20,8 +23,8 @@ pub enum Stop {
     Short,
     // A record names more than 512 curve vertices.
     TooLong,
-    // A read failed.
-    Failed,
+    // A read failed, and why.
+    Failed(Error),
 }
 
 // What a read of the next record finds.
@@ -35,41 +38,41 @@ pub enum Next {
 
 // Reads the coordinates of a record of `count` words, whose head `bytes` begins with, and puts the
 // whole record at the front of `words`.
-fn read_curve(count: usize, bytes: &mut [u8], words: &mut [u32]) -> Next
-    requires le_count { 7 ≤ count }
-    requires count_bound { count ≤ 1543 }
-    requires value { 6172 ≡ length bytes.old }
-    requires value_2 { 1543 ≡ length words.old }
-    ensures { ReadAs result words.new }
+fn read_curve<R: Read>(input: &mut R, count: usize, bytes: &mut [u8], words: &mut [u32]) -> Next
+    requires has_head { 7 ≤ count }
+    requires fits { count ≤ 1543 }
+    requires named { count ≡ lengthNamed (words_in (take 28 bytes.old)) }
+    requires byte_room { 6172 ≡ length bytes.old }
+    requires word_room { 1543 ≡ length words.old }
+    ensures alone { ReadAs result words.new }
+    ensures bytes { let head = take 28 bytes.old in
+        ReadFrom (prepend_known head (R.remaining input.old)) (R.remaining input.new)
+        result words.new }
 {
     let head = 4 * HEAD_WORDS;
     let end = 4 * count;
-    match read_full(STDIN_FILENO, &mut bytes[head..end]) {
-        Filled::Failed => Next::Stop(Stop::Failed),
+    match read_full(input, &mut bytes[head..end]) {
+        Filled::Failed(error) => Next::Stop(Stop::Failed(error)),
         Filled::Ended(_) => Next::Stop(Stop::Short),
         Filled::Full => {
             read_words(&bytes[..end], words);
-            // Checked on the words that were read, because the contract speaks of those.
-            let whole = record_words(&words[..count]);
-            if whole == 0 {
-                return Next::Stop(Stop::Short);
-            }
-            Next::Record(whole)
+            Next::Record(count)
         }
     }
 }
 
-// Reads the next record of standard input to the front of `words`, by way of `bytes`. Both are
-// exactly as long as the longest record.
-pub fn read_record(bytes: &mut [u8], words: &mut [u32]) -> Next
-    requires value { 6172 ≡ length bytes.old }
-    requires value_2 { 1543 ≡ length words.old }
-    ensures { ReadAs result words.new }
+// Reads the next record of `input` to the front of `words`, by way of `bytes`. Both are exactly as
+// long as the longest record.
+pub fn read_record<R: Read>(input: &mut R, bytes: &mut [u8], words: &mut [u32]) -> Next
+    requires byte_room { 6172 ≡ length bytes.old }
+    requires word_room { 1543 ≡ length words.old }
+    ensures alone { ReadAs result words.new }
+    ensures bytes { ReadFrom (R.remaining input.old) (R.remaining input.new) result words.new }
 {
     let front = HEAD_WORDS;
     let head = 4 * front;
-    match read_full(STDIN_FILENO, &mut bytes[..head]) {
-        Filled::Failed => Next::Stop(Stop::Failed),
+    match read_full(input, &mut bytes[..head]) {
+        Filled::Failed(error) => Next::Stop(Stop::Failed(error)),
         Filled::Ended(done) => {
             if done == 0 {
                 return Next::Stop(Stop::End);
@@ -82,7 +85,7 @@ pub fn read_record(bytes: &mut [u8], words: &mut [u32]) -> Next
             if count == 0 {
                 return Next::Stop(Stop::TooLong);
             }
-            read_curve(count, bytes, words)
+            read_curve(input, count, bytes, words)
         }
     }
 }

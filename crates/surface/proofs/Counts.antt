@@ -1,7 +1,7 @@
 -- The counts of a surface are small: it has at most 2 ^ 16 rings, of at most 2 ^ 16 vertices each.
 -- Assumes nothing.
 use mathlib.Core.Bool.{Bool, true, false, cond}
-use Prim.Native.Nat.{ℕ, ◌+◌, ◌*◌, ◌^◌, ◌≤◌, ◌<◌}
+use Prim.Native.Nat.{ℕ, ◌+◌, ◌^◌, ◌≤◌, ◌<◌}
 use native.Mathlib.Nat.{mul-le-mul}
 use native.Mathlib.Omega.{arith}
 use Rattle.surface.specs.Whole.{chainOf, isCapped, ringCount, ringSize, gridSize, surfaceVertexCount}
@@ -24,9 +24,3 @@ module _ (s : Surface) (rows< : s.rows < 2 ^ 16) (columns< : s.columns < 2 ^ 16)
   pub few-vertices : surfaceVertexCount s ≤ 2 ^ 32 + 2
   unfolding surfaceVertexCount
   few-vertices = omega (arith, few-points, cond-le (isCapped s.ending) 2)
-
-  pub few-quads : s.rows * s.columns ≤ 2 ^ 32
-  few-quads =
-      let few-rows : s.rows ≤ 2 ^ 16 = omega arith in
-      let few-columns : s.columns ≤ 2 ^ 16 = omega arith in
-      mul-le-mul few-rows few-columns

@@ -2,7 +2,7 @@
 -- back to the first ring. Assumes nothing.
 use mathlib.Core.Path.{◌≡◌, sym, ap, ◌∙◌}
 use mathlib.Core.List.{◌++◌}
-use Prim.Native.Nat.{ℕ, ◌+◌, ◌*◌, ◌≤◌, ◌<◌}
+use Prim.Native.Nat.{ℕ, ◌+◌, ◌*◌, ◌<◌}
 use native.Mathlib.Numerals.{add-one}
 use native.Mathlib.Omega.{arith}
 use Rattle.laws.specs.Blocks.{blocks, blocks-cong}
@@ -10,7 +10,7 @@ use Rattle.surface.specs.Grid.{after_of, points_of, straightOf, rowTriangles, gr
 use Rattle.surface.specs.declared.quads.Split.{Split}
 use Rattle.surface.specs.declared.grid.Chain.{Chain}
 use Rattle.surface.specs.declared.grid.Chain.TheVariants.{Open}
-use Rattle.surface.proofs.Chains.{straight-bounds, straight-after, last-after}
+use Rattle.surface.proofs.Chains.{straight-after, last-after}
 use Rattle.surface.proofs.Pieces.{row_at}
 
 module _ (split : Split) (round : Chain) (n : ℕ) where
@@ -19,12 +19,6 @@ module _ (split : Split) (round : Chain) (n : ℕ) where
       blocks-cong k (row_at split round n Open k base) (row_at split round n along m base) (λ g h.
       let next = straight-after along m g (omega arith) in
       λ i. rowTriangles split round n (base + g * points_of round n) (base + next i * points_of round n))
-
-  pub none_left : (along : Chain) (m base k : ℕ) → k ≡ straightOf along m → m ≤ k → gridTriangles split Open k round n base ≡ gridTriangles split along m round n base
-  none_left along m base k is h =
-      let bounds = straight-bounds along m in
-      let e : k ≡ m = omega arith in
-      straight-rows along m base k is ∙ ap (λ (j : ℕ). blocks j (row_at split round n along m base)) e
 
   pub one_left : (along : Chain) (m base k : ℕ) → k ≡ straightOf along m → k < m
       → gridTriangles split Open k round n base ++ rowTriangles split round n (base + k * points_of round n) base ≡ gridTriangles split along m round n base

@@ -101,9 +101,9 @@ impl Surface {
     }
 
     fn put_capped(self, first: u32, out: &mut [u32])
-        requires ending_value { isCapped self.ending ≡ true }
-        requires self_bound { first + surfaceVertexCount self ≤ mostInAll }
-        requires self_in_bounds { 3 * surfaceTriangleCount self ≤ length out.old }
+        requires capped { isCapped self.ending ≡ true }
+        requires numbers { first + surfaceVertexCount self ≤ mostInAll }
+        requires within { 3 * surfaceTriangleCount self ≤ length out.old }
         ensures { out.new
             ≡ overwrite 0 (flatten (surfaceTriangles self first)) out.old }
     {
@@ -122,8 +122,8 @@ impl Surface {
 
     // Writes the triangles of the surface whose first vertex is `first` to the front of `out`.
     pub fn put_triangles(self, first: u32, out: &mut [u32])
-        requires self_bound { first + surfaceVertexCount self ≤ mostInAll }
-        requires self_in_bounds { 3 * surfaceTriangleCount self ≤ length out.old }
+        requires numbers { first + surfaceVertexCount self ≤ mostInAll }
+        requires within { 3 * surfaceTriangleCount self ≤ length out.old }
         ensures { out.new
             ≡ overwrite 0 (flatten (surfaceTriangles self first)) out.old }
     {
@@ -139,8 +139,8 @@ impl Surface {
     // nothing, where a vertex would be numbered `MOST_IN_ALL` or above, there are more triangles
     // than `MOST_IN_ALL`, or `out` is too short.
     pub fn write_triangles(self, first: u32, out: &mut [u32]) -> bool
-        ensures value { result ≡ placeable self first (length out.old) }
-        ensures out_after { out.new
+        ensures answer { result ≡ placeable self first (length out.old) }
+        ensures written { out.new
             ≡ placed result (flatten (surfaceTriangles self first)) out.old }
     {
         if self.is_placeable(first, out.len()) {

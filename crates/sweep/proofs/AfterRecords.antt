@@ -1,15 +1,20 @@
--- A record that was read and added after the others. Assumes nothing.
-use mathlib.Core.Path.{◌≡◌, refl, sym, ap, ◌∙◌}
-use mathlib.Core.List.{List}
-use Prim.Native.Nat.{ℕ, ◌+◌, ◌≤◌, ◌<◌}
-use native.Mathlib.Omega.{arith}
-use lib.ListN.{length, take}
-use lib.Seq.{length-take-le}
+-- Records that were read and added, one after the other: of the known bytes of the input, where there are any, they are
+-- the front. Assumes nothing.
+use Rattle.std.proofs.Common.{◌≡◌, refl, sym, ap, ◌∙◌, List, [], ◌++◌, ℕ, ◌+◌, ◌*◌, ◌≤◌, ◌<◌, length, take, length-take-le, length-append, arith, IfSome}
+use Rattle.std.specs.declared.option.Option.{Option}
+use Rattle.std.specs.declared.option.Option.TheVariants.{None, Some}
+use Rattle.std.specs.Io.KnownBytes.{Consumes}
+use Rattle.std.proofs.KnownBytes.{Consumes-nil, Consumes-trans}
+use Rattle.little_endian.specs.Words.{words_in}
 use Rattle.set_table.specs.Buffers.{Buffers}
 use Rattle.ledger.specs.Calls.{Called, additions}
 use Rattle.records.specs.Records.{recordWords, firstAddition}
 use Rattle.records.proofs.Additions.{additions-append}
-use Rattle.sweep.specs.Input.{none, then, additionsFrom, AfterRecords}
+use Rattle.streams.specs.declared.record.Stop.{Stop}
+use Rattle.streams.specs.Record.{StopsBefore}
+use Rattle.streams.proofs.Words.{words-append}
+use Rattle.sweep.specs.Input.{Records, none, then, recordCount, EachWhole, additionsFrom, AfterRecords}
+use Rattle.sweep.specs.Known.{wordsOf, AddedFrom}
 
 -- the front of the words that were read, which is as long as the record there, is that record
 pub read_whole : (end : ℕ) (words : List ℕ) → end ≤ length words → end ≡ recordWords (take end words)
@@ -19,16 +24,65 @@ read_whole end words held is = length-take-le end words held ∙ is
 pub read_some : (end : ℕ) (words : List ℕ) → 0 < end → end ≤ length words → 0 < length (take end words)
 read_some end words some held = omega (arith, length-take-le end words held)
 
-pub none-added : (s : Buffers) → AfterRecords 0 s s
-none-added s = record { records = none; counted = refl; whole = tt; left = refl }
+-- `count` whole records were read, which took the input's known bytes from `old` to `new`, and were added
+pub record SoFar (old new : Option (List ℕ)) (count : ℕ) (before after : Buffers) : Type 0 where
+  pub records : Records
+  pub read : List ℕ
+  pub counted : count ≡ recordCount records
+  pub whole : EachWhole records
+  pub taken : Consumes old new read
+  pub words : words_in read ≡ wordsOf records
+  pub sized : length read ≡ 4 * length (wordsOf records)
+  pub left : after ≡ (additions (additionsFrom records) before).left
 
-pub one-added : (words : List ℕ) {count : ℕ} {before s s' : Buffers} → AfterRecords count before s
-    → 0 < length words → length words ≡ recordWords words
-    → s' ≡ (additions (firstAddition words) s).left → AfterRecords (count + 1) before s'
-one-added words {before = before} so_far some is added = record {
-  records = then so_far.records words;
-  counted = ap (λ (n : ℕ). n + 1) so_far.counted;
-  whole = (so_far.whole, some, is);
-  left = added ∙ ap (λ (s : Buffers). (additions (firstAddition words) s).left) so_far.left
-      ∙ sym (ap (λ (r : Called). r.left) (additions-append (additionsFrom so_far.records) (firstAddition words) before));
+pub none-read : (known : Option (List ℕ)) (s : Buffers) → SoFar known known 0 s s
+none-read known s = record {
+  records = none;
+  read = [];
+  counted = refl;
+  whole = tt;
+  taken = Consumes-nil known;
+  words = refl;
+  sized = refl;
+  left = refl;
+}
+
+-- one record more, of these words, which were read from these bytes
+pub one-read : (words bytes : List ℕ) {old mid new : Option (List ℕ)} {count : ℕ} {before s s' : Buffers}
+    → SoFar old mid count before s → 0 < length words → length words ≡ recordWords words
+    → Consumes mid new bytes → length bytes ≡ 4 * length words → words_in bytes ≡ words
+    → s' ≡ (additions (firstAddition words) s).left → SoFar old new (count + 1) before s'
+one-read words bytes {before = before} so_far some is taken sized read added =
+    let all = wordsOf so_far.records in record {
+      records = then so_far.records words;
+      read = so_far.read ++ bytes;
+      counted = ap (λ (n : ℕ). n + 1) so_far.counted;
+      whole = (so_far.whole, some, is);
+      taken = Consumes-trans _ _ _ so_far.read bytes so_far.taken taken;
+      words = words-append (length all) so_far.read bytes so_far.sized ∙ (λ j. so_far.words j ++ read j);
+      sized = omega (arith, so_far.sized, sized, length-append so_far.read bytes, length-append all words);
+      left = added ∙ ap (λ (s : Buffers). (additions (firstAddition words) s).left) so_far.left
+          ∙ sym (ap (λ (r : Called). r.left) (additions-append (additionsFrom so_far.records) (firstAddition words) before));
+    }
+
+pub after_records : {old new : Option (List ℕ)} {count : ℕ} {before after : Buffers} → SoFar old new count before after
+    → AfterRecords count before after
+after_records so_far = record { records = so_far.records; counted = so_far.counted; whole = so_far.whole; left = so_far.left }
+
+-- the reading stopped where it had come
+pub stopped_here : (old new : Option (List ℕ)) (stop : Option Stop) (count : ℕ) (before after : Buffers) → SoFar old new count before after
+    → IfSome new (λ rest. IfSome stop (λ why. StopsBefore why rest)) → IfSome old (λ bytes. AddedFrom bytes stop count before after)
+stopped_here None new stop count before after so_far h = tt
+stopped_here (Some bytes) None stop count before after so_far h = absurd so_far.taken
+stopped_here (Some bytes) (Some rest) stop count before after so_far h = record {
+  records = so_far.records;
+  read = so_far.read;
+  rest = rest;
+  counted = so_far.counted;
+  whole = so_far.whole;
+  front = so_far.taken;
+  words = so_far.words;
+  sized = so_far.sized;
+  stopped = h;
+  left = so_far.left;
 }

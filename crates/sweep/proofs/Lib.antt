@@ -1,3 +1,4 @@
+mod AfterRecords
+mod Behind
 pub mod Filled
 pub mod Whole
-mod AfterRecords

@@ -1,12 +1,22 @@
-ghost use Rattle.std.specs.Prelude.{◌≡◌, length};
+ghost use Rattle.std.specs.Prelude.{◌≡◌, ◌<◌, length, IfSome};
 ghost use Rattle.set_table.specs.Buffers.{buffers};
 ghost use Rattle.ledger.specs.Calls.{additions, clearedSet};
 ghost use Rattle.records.specs.Records.{recordWords, firstAddition};
 ghost use Rattle.sweep.specs.Input.{AfterRecords};
+ghost use Rattle.sweep.specs.Known.{AddedFrom, AddedAll, UnlessFailed};
 
-use crate::report::report;
 use records::add_first;
-use streams::{Next, RECORD_BYTES, RECORD_WORDS, read_record};
+use std::io::Read;
+use streams::{Next, RECORD_BYTES, RECORD_WORDS, Stop, read_record};
+
+// What the reading of records came to.
+#[derive(Clone, Copy)]
+pub(crate) struct Reading {
+    // How many records were added.
+    pub(crate) count: u64,
+    // Why there are no more. None if the input went on after as many as can be counted.
+    pub(crate) stop: Option<Stop>,
+}
 
 // Adds the body of the one record that `words` is.
 fn add_record(words: &[u32], table: &mut [u32], vertices: &mut [f32], triangles: &mut [u32])
@@ -18,23 +28,33 @@ fn add_record(words: &[u32], table: &mut [u32], vertices: &mut [f32], triangles:
     add_first(words, table, vertices, triangles);
 }
 
-// Adds the body of each record of standard input and answers how many records there were. Says on
-// standard error why it stopped, unless the input ended after the last record. The count ends the
-// loop if the input never does.
-fn add_records(table: &mut [u32], vertices: &mut [f32], triangles: &mut [u32]) -> u64
-    ensures { let s = buffers table.old vertices.old triangles.old in
-        AfterRecords result s (buffers table.new vertices.new triangles.new) }
+// Adds the body of each record of `input`. The count ends the loop if the input never does.
+fn add_records<R: Read>(
+    input: &mut R,
+    table: &mut [u32],
+    vertices: &mut [f32],
+    triangles: &mut [u32],
+) -> Reading
+    ensures counted { IfSome result.stop (λ _. result.count < 18446744073709551615) }
+    ensures after { let s = buffers table.old vertices.old triangles.old in
+        AfterRecords result.count s (buffers table.new vertices.new triangles.new) }
+    ensures front { let s = buffers table.old vertices.old triangles.old in
+        IfSome (R.remaining input.old) (λ bytes.
+        AddedFrom bytes result.stop result.count s
+        (buffers table.new vertices.new triangles.new)) }
 {
     let mut byte_scratch = [0u8; RECORD_BYTES];
     let mut word_scratch = [0u32; RECORD_WORDS];
     let bytes: &mut [u8] = &mut byte_scratch;
     let words: &mut [u32] = &mut word_scratch;
     let mut count: u64 = 0;
-    while count < 18446744073709551615 {
-        match read_record(bytes, words) {
+    while count < u64::MAX {
+        match read_record(input, bytes, words) {
             Next::Stop(why) => {
-                report(why, count + 1);
-                return count;
+                return Reading {
+                    count,
+                    stop: Some(why),
+                };
             }
             Next::Record(end) => {
                 add_record(&words[..end], table, vertices, triangles);
@@ -42,15 +62,29 @@ fn add_records(table: &mut [u32], vertices: &mut [f32], triangles: &mut [u32]) -
         }
         count += 1;
     }
-    count
+    Reading { count, stop: None }
 }
 
-// Clears the set and adds the body of each record of standard input.
-pub(crate) fn collect(table: &mut [u32], vertices: &mut [f32], triangles: &mut [u32]) -> u64
-    ensures { let s = buffers table.old vertices.old triangles.old in
-        AfterRecords result (clearedSet s)
+// Clears the set and adds the body of each record of `input`.
+pub(crate) fn collect<R: Read>(
+    input: &mut R,
+    table: &mut [u32],
+    vertices: &mut [f32],
+    triangles: &mut [u32],
+) -> Reading
+    ensures counted { IfSome result.stop (λ _. result.count < 18446744073709551615) }
+    ensures after { let s = buffers table.old vertices.old triangles.old in
+        AfterRecords result.count (clearedSet s)
         (buffers table.new vertices.new triangles.new) }
+    ensures front { let s = buffers table.old vertices.old triangles.old in
+        IfSome (R.remaining input.old) (λ bytes.
+        AddedFrom bytes result.stop result.count (clearedSet s)
+        (buffers table.new vertices.new triangles.new)) }
+    ensures all { let s = buffers table.old vertices.old triangles.old in
+        IfSome (R.remaining input.old) (λ bytes. IfSome result.stop (λ why.
+        UnlessFailed why (AddedAll bytes (clearedSet s)
+        (buffers table.new vertices.new triangles.new)))) }
 {
     shared_set::clear(table);
-    add_records(table, vertices, triangles)
+    add_records(input, table, vertices, triangles)
 }

@@ -2,7 +2,7 @@
 -- the definitions decided. Assumes nothing.
 use mathlib.Core.Path.{◌≡◌, refl, sym, ap, ◌∙◌}
 use mathlib.Core.List.{List}
-use Prim.Native.Nat.{ℕ, zero, suc, ◌+◌, ◌-◌, ◌*◌, ◌≤◌, ◌<◌}
+use Prim.Native.Nat.{ℕ, zero, suc, ◌-◌, ◌*◌, ◌≤◌, ◌<◌}
 use native.Mathlib.Numerals.{add-one}
 use native.Mathlib.Omega.{arith}
 use borrow.Author.Tests.{eq-eqb, ne_eqb}
@@ -15,7 +15,6 @@ use Rattle.curve.specs.Framex.{carried_of, carriedOn, carriedTo}
 use Rattle.curve.specs.declared.framex.Carried.{Carried}
 use Rattle.curve.proofs.Carry.{carried_first, carried-next}
 use Rattle.rings.specs.Axes.{axesAt, betweenOf}
-use Rattle.rings.specs.declared.axes.Axes.{Axes}
 use Rattle.swept_bodies.specs.Tables.{DirectionTable, EzTable, carriedIn}
 use Rattle.swept_bodies.specs.Swept.{axesIn}
 use Rattle.swept_bodies.specs.Polyline3.{vtx2framex, framez, vtx2framey, axesOf}

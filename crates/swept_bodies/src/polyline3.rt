@@ -21,8 +21,10 @@ pub fn set_vtx2xyz_for_generalized_cylinder_open_end(
     n: u16,
     r: f32,
 )
-    requires open_curve { OpenCurve curve.now directions.now × ((verticesIn curve.now - 1) * 3 ≤ length ez.old) }
-    requires n_bound { (n ≤ 256) × ((verticesIn curve.now - 1 + 1) * (n * 3) ≤ length out.old) }
+    requires open_curve { OpenCurve curve.now directions.now }
+    requires ez_room { (verticesIn curve.now - 1) * 3 ≤ length ez.old }
+    requires divisions_permitted { n ≤ 256 }
+    requires room { (verticesIn curve.now - 1 + 1) * (n * 3) ≤ length out.old }
     ensures { let c = curve.now in
         out.new ≡ overwrite 0 (tubeVertices n r (verticesIn c - 1) c) out.old }
 {
@@ -49,7 +51,7 @@ fn write_tube(
     turns: &[f32],
 )
     requires open_sweep { OpenSweep sweep curve.now directions.now ez.now turns.now }
-    requires divisions_in_bounds { (sweep.segments + 1) * (sweep.divisions * 3) ≤ length out.old }
+    requires room { (sweep.segments + 1) * (sweep.divisions * 3) ≤ length out.old }
     ensures { let tube = tubeVertices sweep.divisions sweep.radius sweep.segments curve.now in
         out.new ≡ overwrite 0 tube out.old }
 {
@@ -77,7 +79,8 @@ pub fn to_trimesh3_capsule(
     longitudes: u16,
     r: f32,
 )
-    requires open_curve { OpenCurve curve.now directions.now × ((verticesIn curve.now - 1) * 3 ≤ length ez.old) }
+    requires open_curve { OpenCurve curve.now directions.now }
+    requires ez_room { (verticesIn curve.now - 1) * 3 ≤ length ez.old }
     requires capsule_fits { CapsuleFits (verticesIn curve.now - 1) n longitudes (length out.old) }
     ensures { let c = curve.now in
         out.new ≡ overwrite 0 (capsuleVertices n longitudes r (verticesIn c - 1) c) out.old }
@@ -138,7 +141,8 @@ fn put_pair(out: &mut [f32], at: usize, p: Point, frame: Frame, width: f32)
 
 // Writes the vertices of a ribbon to the front of `out`.
 pub fn to_trimesh3_ribbon(out: &mut [f32], curve: &[f32], directions: &[f32], width: f32)
-    requires { OpenCurve curve.now directions.now × ((verticesIn curve.now - 1 + 1) * 6 ≤ length out.old) }
+    requires open_curve { OpenCurve curve.now directions.now }
+    requires room { (verticesIn curve.now - 1 + 1) * 6 ≤ length out.old }
     ensures { let c = curve.now in
         out.new ≡ overwrite 0 (ribbonVertices width (verticesIn c - 1) c) out.old }
 {

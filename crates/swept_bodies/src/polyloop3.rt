@@ -13,7 +13,8 @@ use rings::{Order, Ring};
 // Writes the vertices of a torus to the front of `out`.
 pub fn to_trimesh3_torus(out: &mut [f32], curve: &[f32], directions: &[f32], n: u16, r: f32)
     requires closed_curve { ClosedCurve curve.now directions.now }
-    requires n_bound { (n ≤ 256) × (verticesIn curve.now * (n * 3) ≤ length out.old) }
+    requires divisions_permitted { n ≤ 256 }
+    requires room { verticesIn curve.now * (n * 3) ≤ length out.old }
     ensures { let c = curve.now in
         out.new ≡ overwrite 0 (torusVertices n r (verticesIn c) c) out.old }
 {
@@ -33,7 +34,7 @@ pub fn to_trimesh3_torus(out: &mut [f32], curve: &[f32], directions: &[f32], n: 
 // ez.
 fn write_torus(out: &mut [f32], curve: &[f32], directions: &[f32], sweep: Sweep, turns: &[f32])
     requires closed_sweep { ClosedSweep sweep curve.now directions.now turns.now }
-    requires divisions_in_bounds { sweep.segments * (sweep.divisions * 3) ≤ length out.old }
+    requires room { sweep.segments * (sweep.divisions * 3) ≤ length out.old }
     ensures { let torus = torusVertices sweep.divisions sweep.radius sweep.segments curve.now in
         out.new ≡ overwrite 0 torus out.old }
 {

@@ -32,7 +32,8 @@ pub(crate) fn axes_on(curve: &[f32], k: usize, carried: Carried) -> Axes
 // index 3g on. It is filled before the first ring is written, because square roots that wait
 // neither for each other nor for a ring take a third of the time.
 pub(crate) fn fill_framez(count: u16, directions: &[f32], out: &mut [f32])
-    requires { (count * 3 ≤ length directions.now) × (count * 3 ≤ length out.old) }
+    requires directions_room { count * 3 ≤ length directions.now }
+    requires room { count * 3 ≤ length out.old }
     ensures { EzTable count directions.now out.new }
 {
     let mut before: usize = 0;
@@ -58,12 +59,14 @@ pub(crate) fn write_inner(
     start: Carried,
     turns: &[f32],
 ) -> Carried
-    requires le_segments { (1 ≤ sweep.segments) × (start ≡ carriedIn directions.now 0) }
-    requires segments_in_bounds { (sweep.segments * 3 ≤ length directions.now) × (sweep.segments * 3 ≤ length ez.now) }
-    requires divisions_in_bounds { (sweep.segments - 1) * (sweep.divisions * 3) ≤ length out.old }
-    requires turns { Turns sweep.divisions turns.now }
-    ensures value { result ≡ carriedIn directions.now (sweep.segments - 1) }
-    ensures out_after { let rings = innerRings sweep curve.now directions.now ez.now in
+    requires segment { 1 ≤ sweep.segments }
+    requires started { start ≡ carriedIn directions.now 0 }
+    requires directions_room { sweep.segments * 3 ≤ length directions.now }
+    requires ez_room { sweep.segments * 3 ≤ length ez.now }
+    requires room { (sweep.segments - 1) * (sweep.divisions * 3) ≤ length out.old }
+    requires turned { Turns sweep.divisions turns.now }
+    ensures carried { result ≡ carriedIn directions.now (sweep.segments - 1) }
+    ensures written { let rings = innerRings sweep curve.now directions.now ez.now in
         out.new ≡ overwrite 0 rings out.old }
 {
     let order = sweep.order;

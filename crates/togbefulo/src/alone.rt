@@ -26,7 +26,7 @@ fn number(verdict: Verdict) -> u32
 
 // Writes the counts, if the answer has them, and answers its number.
 fn put_counts(counted: Counted, counts: &mut [u32; 2]) -> u32
-    ensures value { result ≡ number_in (countedAnswer counted) }
+    ensures number { result ≡ number_in (countedAnswer counted) }
     ensures counts_after { counts.new ≡ countsIn (countedAnswer counted) counts.old }
 {
     match counted {
@@ -55,7 +55,7 @@ pub extern "C" fn togbefulo_counts(
     vertices: usize,
     counts: &mut [u32; 2],
 ) -> u32
-    ensures value { result ≡ countsNumber (describedOf kind divisions steps centred size length) vertices }
+    ensures number { result ≡ countsNumber (describedOf kind divisions steps centred size length) vertices }
     ensures counts_after { let d = describedOf kind divisions steps centred size length in
         counts.new ≡ countsAfter d vertices counts.old }
 {
@@ -99,7 +99,7 @@ pub extern "C" fn togbefulo_vertices(
     curve: &[f32],
     out: &mut [f32],
 ) -> bool
-    ensures result_value { let d = describedOf kind divisions steps centred size length in
+    ensures drawn { let d = describedOf kind divisions steps centred size length in
         result ≡ isDrawn d curve.now out.old }
     ensures out_after { let d = describedOf kind divisions steps centred size length in
         out.new ≡ placed result (drawnVertices d curve.now) out.old }

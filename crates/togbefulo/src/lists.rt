@@ -12,7 +12,7 @@ use kinds::{Capsule, ClosedCylinder, Ribbon, Topology, Torus, Tube};
 
 #[unsafe(no_mangle)]
 pub extern "C" fn togbefulo_ribbon_triangles(segments: u16, first: u32, out: &mut [u32]) -> bool
-    ensures result_value { let body = Topology.Ribbon (record { segments = segments }) in
+    ensures written { let body = Topology.Ribbon (record { segments = segments }) in
         result ≡ writable body first (length out.old) }
     ensures out_after { let body = Topology.Ribbon (record { segments = segments }) in
         out.new ≡ placed result (flatten (shift first (trianglesOf body))) out.old }
@@ -27,7 +27,7 @@ pub extern "C" fn togbefulo_tube_triangles(
     first: u32,
     out: &mut [u32],
 ) -> bool
-    ensures result_value { let body = Topology.Tube (record { divisions = divisions; segments = segments }) in
+    ensures written { let body = Topology.Tube (record { divisions = divisions; segments = segments }) in
         result ≡ writable body first (length out.old) }
     ensures out_after { let body = Topology.Tube (record { divisions = divisions; segments = segments }) in
         out.new ≡ placed result (flatten (shift first (trianglesOf body))) out.old }
@@ -47,7 +47,7 @@ pub extern "C" fn togbefulo_capsule_triangles(
     first: u32,
     out: &mut [u32],
 ) -> bool
-    ensures result_value { let body = Topology.Capsule
+    ensures written { let body = Topology.Capsule
         (record { divisions = divisions; longitudes = longitudes; segments = segments }) in
         result ≡ writable body first (length out.old) }
     ensures out_after { let body = Topology.Capsule
@@ -69,7 +69,7 @@ pub extern "C" fn togbefulo_torus_triangles(
     first: u32,
     out: &mut [u32],
 ) -> bool
-    ensures result_value { let body = Topology.Torus (record { divisions = divisions; vertices = vertices }) in
+    ensures written { let body = Topology.Torus (record { divisions = divisions; vertices = vertices }) in
         result ≡ writable body first (length out.old) }
     ensures out_after { let body = Topology.Torus (record { divisions = divisions; vertices = vertices }) in
         out.new ≡ placed result (flatten (shift first (trianglesOf body))) out.old }
@@ -88,7 +88,7 @@ pub extern "C" fn togbefulo_closed_cylinder_triangles(
     first: u32,
     out: &mut [u32],
 ) -> bool
-    ensures result_value { let body = Topology.ClosedCylinder (record { divisions = divisions; layers = layers }) in
+    ensures written { let body = Topology.ClosedCylinder (record { divisions = divisions; layers = layers }) in
         result ≡ writable body first (length out.old) }
     ensures out_after { let body = Topology.ClosedCylinder (record { divisions = divisions; layers = layers }) in
         out.new ≡ placed result (flatten (shift first (trianglesOf body))) out.old }

@@ -17,7 +17,7 @@ use set_file::FileWord;
 // Empties the set: sets word 0 of the table to 0. An empty table is refused (1).
 #[unsafe(no_mangle)]
 pub extern "C" fn togbefulo_clear(table: &mut [u32]) -> u32
-    ensures value { result ≡ number_in (clearAnswer table.old) }
+    ensures number { result ≡ number_in (clearAnswer table.old) }
     ensures table_after { table.new ≡ cleared table.old }
 {
     shared_set::clear(table).number()
@@ -39,10 +39,10 @@ pub extern "C" fn togbefulo_add(
     vertices: &mut [f32],
     triangles: &mut [u32],
 ) -> u32
-    ensures result_value { let s = buffers table.old vertices.old triangles.old in
+    ensures number { let s = buffers table.old vertices.old triangles.old in
         let d = describedOf kind divisions steps centred size length in
         result ≡ number_in (addedAs d curve.now s).answer }
-    ensures triangles_after { let s = buffers table.old vertices.old triangles.old in
+    ensures buffers_after { let s = buffers table.old vertices.old triangles.old in
         let d = describedOf kind divisions steps centred size length in
         buffers table.new vertices.new triangles.new
         ≡ (addedAs d curve.now s).left }
@@ -57,7 +57,7 @@ pub extern "C" fn togbefulo_add(
 
 // Writes the word, if the answer has one, and answers its number.
 fn put_word(answer: FileWord, word: &mut [u32; 1]) -> u32
-    ensures value { result ≡ number_in (wordAnswer answer) }
+    ensures number { result ≡ number_in (wordAnswer answer) }
     ensures word_after { word.new ≡ wordAfter (wordAnswer answer) word.old }
 {
     match answer {
@@ -79,7 +79,7 @@ pub extern "C" fn togbefulo_file_word(
     place: usize,
     word: &mut [u32; 1],
 ) -> u32
-    ensures result_value { let s = buffers table.now vertices.now triangles.now in
+    ensures number { let s = buffers table.now vertices.now triangles.now in
         result ≡ number_in (fileWordOf s place) }
     ensures word_after { let s = buffers table.now vertices.now triangles.now in
         word.new ≡ wordAfter (fileWordOf s place) word.old }
@@ -98,11 +98,11 @@ pub extern "C" fn togbefulo_build(
     vertices: &mut [f32],
     triangles: &mut [u32],
 ) -> u32
-    ensures result_value { let s = buffers table.old vertices.old triangles.old in
+    ensures number { let s = buffers table.old vertices.old triangles.old in
         result ≡ number_in (builtOf records.now answers.old s).answer }
     ensures answers_after { let s = buffers table.old vertices.old triangles.old in
         answers.new ≡ (builtOf records.now answers.old s).answers }
-    ensures triangles_after { let s = buffers table.old vertices.old triangles.old in
+    ensures buffers_after { let s = buffers table.old vertices.old triangles.old in
         buffers table.new vertices.new triangles.new
         ≡ (builtOf records.now answers.old s).left }
 {

@@ -1,5 +1,5 @@
 -- The twist of a torus without a seam (document 02, No. 1). Definitions only.
-use Rattle.std.specs.Prelude.{◌≡◌, Bool, true, false, ◌&&◌, cond, ℕ, ◌+◌, ◌-◌, ◌*◌, leb, Float}
+use Rattle.std.specs.Prelude.{◌≡◌, Bool, true, false, ◌&&◌, cond, ℕ, ◌-◌, ◌*◌, leb, Float}
 use Rattle.std.specs.Float.Ieee.{neg, le}
 use Rattle.std.specs.Float.Ieee.Scale.{finite}
 use Rattle.laws.specs.Every.{every}

@@ -51,7 +51,7 @@ fn lead_each(start: Leader, base: u16, scores: &[f32]) -> Leader
 // nothing, and most blocks are such.
 pub(crate) fn lead(start: Leader, base: u16, scores: &[f32]) -> Leader
     requires { (base + 512 ≤ 4096) × (length scores.now ≡ 512) }
-    ensures { result ≡ ledBy scores.now base 512 start }
+    ensures { result ≡ ledBy scores.now base (length scores.now) start }
 {
     let mut leader = start;
     let mut at: usize = 0;

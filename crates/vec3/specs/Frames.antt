@@ -13,7 +13,8 @@ acrossY u = record { x = u.z; y = of_bits binary32 0; z = neg u.x }
 unfoldable pub acrossX : Point → Point
 acrossX u = record { x = of_bits binary32 0; y = neg u.z; z = u.y }
 
--- "(uz, +0, −ux) if the dot of this triple with itself is at least 2^−4, else (+0, −uz, uy)". 3D800000 is 2^−4.
+-- "(uz, +0, −ux) if the dot of this triple with itself is at least 2^−4, else (+0, −uz, uy)".
+-- 3D800000 is 2^−4.
 unfoldable pub perpendicularTo : Point → Point
 perpendicularTo u = cond (le (of_bits binary32 0x3D80_0000) (dotOf (acrossY u) (acrossY u))) (acrossY u) (acrossX u)
 
@@ -31,4 +32,5 @@ transported f u w =
     let b = f.ex in
     let c = dotOf u w in
     let q = cross_of u w in
-    record { ex = sum_of (sum_of (scaled b c) (cross_of q b)) (scaled q (over (dotOf q b) (plus (of_bits binary32 0x3F80_0000) c))) }
+    let along = over (dotOf q b) (plus (of_bits binary32 0x3F80_0000) c) in
+    record { ex = sum_of (sum_of (scaled b c) (cross_of q b)) (scaled q along) }

@@ -1,4 +1,5 @@
--- Points: each operation rounded once, in the order written (document 01, 'Arithmetic'). Definitions only.
+-- Points: each operation rounded once, in the order written (document 01, 'Arithmetic').
+-- Definitions only.
 use Rattle.std.specs.Prelude.{List, [], ◌∷◌, Float}
 use Rattle.vec3.specs.declared.points.Point.{Point}
 use Rattle.float32.specs.Root.{rootOf}

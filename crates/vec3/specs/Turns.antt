@@ -26,11 +26,16 @@ bracket a z b = plus a (times z b)
 
 -- "s = a·(1 + z·(−1/6 + z·(1/120 + z·(−1/5040 + z·(1/362880)))))"
 unfoldable pub sineOf : Float → Float → Float
-sineOf a z = times a (bracket (whole 1) z (bracket (minusFraction 1 6) z (bracket (fraction 1 120) z (bracket (minusFraction 1 5040) z (fraction 1 362880)))))
+sineOf a z =
+    times a
+    (bracket (whole 1) z (bracket (minusFraction 1 6) z
+    (bracket (fraction 1 120) z (bracket (minusFraction 1 5040) z (fraction 1 362880)))))
 
 -- "c = 1 + z·(−1/2 + z·(1/24 + z·(−1/720 + z·(1/40320))))"
 unfoldable pub cosineOf : Float → Float
-cosineOf z = bracket (whole 1) z (bracket (minusFraction 1 2) z (bracket (fraction 1 24) z (bracket (minusFraction 1 720) z (fraction 1 40320))))
+cosineOf z =
+    bracket (whole 1) z (bracket (minusFraction 1 2) z
+    (bracket (fraction 1 24) z (bracket (minusFraction 1 720) z (fraction 1 40320))))
 
 abbrev pub pair : Float → Float → Direction
 pair c s = record { cos = c; sin = s }
@@ -43,7 +48,8 @@ inOctant o c s =
     ∷ pair (neg c) (neg s) ∷ pair (neg s) (neg c) ∷ pair s (neg c) ∷ pair c (neg s) ∷ []
     ) o (pair c s)
 
--- "a = y times the f32 with bits 3F490FDB (hexadecimal); z = a·a", then s and c: the pair (c, s) of y
+-- "a = y times the f32 with bits 3F490FDB (hexadecimal); z = a·a", then s and c: the pair (c, s)
+-- of y
 unfoldable pub withinOctant : Float → Direction
 withinOctant y =
     let a = times y (of_bits binary32 0x3F49_0FDB) in
@@ -58,6 +64,7 @@ directionOf k n =
     let d = withinOctant (part_of o r n) in
     inOctant o d.cos d.sin
 
--- turn(k, n), "0 ≤ k < n ≤ 2^24". For other k and n, of which the paper says nothing, the direction of no turn.
+-- turn(k, n), "0 ≤ k < n ≤ 2^24". For other k and n, of which the paper says nothing, the
+-- direction of no turn.
 unfoldable pub turn_of : ℕ → ℕ → Direction
 turn_of k n = cond (ltb k n && leb n (2 ^ 24)) (directionOf k n) (pair (whole 1) (whole 0))

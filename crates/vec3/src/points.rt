@@ -1,5 +1,6 @@
 ghost use Rattle.std.specs.Prelude.{◌≡◌};
-ghost use Rattle.vec3.specs.Points.{thrice, sum_of, differenceOf, scaled, productOf, quotient_of, dotOf, cross_of, normOf, normalised};
+ghost use Rattle.vec3.specs.Points.{thrice, sum_of, differenceOf, scaled, productOf, quotient_of};
+ghost use Rattle.vec3.specs.Points.{dotOf, cross_of, normOf, normalised};
 
 // A vertex, a segment's direction or a frame's axis.
 #[derive(Clone, Copy)]

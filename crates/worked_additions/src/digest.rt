@@ -13,10 +13,8 @@ pub(crate) fn mix(digest: u32, word: u32) -> u32 {
 
 fn digest_words(start: u32, words: &[u32]) -> u32 {
     let mut digest = start;
-    let mut i: usize = 0;
-    while i < words.len() {
-        digest = mix(digest, words[i]);
-        i += 1;
+    for word in words {
+        digest = mix(digest, *word);
     }
     digest
 }

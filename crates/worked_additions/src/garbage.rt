@@ -6,11 +6,9 @@ use hex_lines::from_words;
 
 pub(crate) fn fill_words(seed: u32, words: &mut [u32]) {
     let mut state = seed;
-    let mut i: usize = 0;
-    while i < words.len() {
+    for word in words {
         state = mix(state, 1);
-        words[i] = state;
-        i += 1;
+        *word = state;
     }
 }
 

@@ -11,28 +11,25 @@ mod replay;
 mod step;
 
 ghost use Rattle.std.specs.Prelude.{◌≡◌, length};
-ghost use Rattle.io.specs.Counts.{IsPrefixLen};
 
 use crate::digest::VERTEX_FLOATS;
 use crate::garbage::{fill_floats, fill_words};
 use crate::replay::replay;
 use little_endian::read_words;
+use std::alloc::Global;
+use std::io::{self, BufWriter, Read, Write};
 
 const TABLE_WORDS: usize = 400;
 
 const TRIANGLE_WORDS: usize = 4800;
 
-const INPUT_WORDS: usize = 16384;
-
-// Reads standard input as words to the front of `words`, and answers how many whole words it has.
-fn read_input(words: &mut [u32]) -> usize
-    requires { 16384 ≡ length words.old }
-    ensures { IsPrefixLen result words.new }
-{
-    let mut bytes = io::large_buffer();
-    let count = io::read_full(0, &mut bytes);
-    read_words(&bytes[..count], words);
-    count / 4
+// Reads the input to its end, and answers its whole words.
+fn read_input<R: Read>(input: &mut R, alloc: Global) -> io::Result<Vec<u32>> {
+    let mut bytes = Vec::new(alloc);
+    input.read_to_end(&mut bytes)?;
+    let mut words = vec![in alloc; 0u32; bytes.len() / 4]?;
+    read_words(&bytes, &mut words);
+    Ok(words)
 }
 
 // Fills the buffers and clears the table.
@@ -45,12 +42,13 @@ fn prepare(table: &mut [u32], vertices: &mut [f32], triangles: &mut [u32])
     shared_set::clear(table);
 }
 
-fn main() {
-    let mut words = [0u32; INPUT_WORDS];
+fn main(rt: HostRuntime) -> io::Result<()> {
+    let words = read_input(&mut rt.reader(), rt.alloc())?;
     let mut table = [0u32; TABLE_WORDS];
     let mut vertices = [0f32; VERTEX_FLOATS];
     let mut triangles = [0u32; TRIANGLE_WORDS];
-    let count = read_input(&mut words);
     prepare(&mut table, &mut vertices, &mut triangles);
-    replay(&words[..count], &mut table, &mut vertices, &mut triangles);
+    let mut out = BufWriter::new(rt.alloc(), io::writer(&rt))?;
+    replay(&mut out, &words, &mut table, &mut vertices, &mut triangles)?;
+    out.flush()
 }

@@ -1,41 +1,49 @@
-ghost use Rattle.std.specs.Prelude.{◌≡◌, ◌≤◌, length};
+ghost use Rattle.std.specs.Prelude.{◌≡◌, ◌≤◌, IfOk, length};
 
 use crate::digest::digest;
 use crate::step::{HEAD, step, step_words};
-use hex_lines::print_words;
+use hex_lines::write_words;
+use std::io::{self, Write};
 
-// Does the step that `words` begins with, and prints its line: the number that its addition
+// Does the step that `words` begins with, and writes its line: the number that its addition
 // answered, and the digest of what all buffers then hold. Answers how many words the step has, 0
 // where there is none.
-fn print_step(
+fn write_step<W: Write>(
+    out: &mut W,
     words: &[u32],
     table: &mut [u32],
     vertices: &mut [f32],
     triangles: &mut [u32],
-) -> usize
+) -> io::Result<usize>
     requires { 2400 ≡ length vertices.old }
-    ensures { result ≤ length words.now }
+    ensures { IfOk result (λ count. count ≤ length words.now) }
 {
     let count = step_words(words);
     if count <= HEAD {
-        return 0;
+        return Ok(0);
     }
     let number = step(words, table, vertices, triangles);
     let digest = digest(table, vertices, triangles);
-    print_words(&[number, digest], b'\n');
-    count
+    write_words(out, &[number, digest], '\n')?;
+    Ok(count)
 }
 
 // Does all steps.
-pub(crate) fn replay(words: &[u32], table: &mut [u32], vertices: &mut [f32], triangles: &mut [u32])
+pub(crate) fn replay<W: Write>(
+    out: &mut W,
+    words: &[u32],
+    table: &mut [u32],
+    vertices: &mut [f32],
+    triangles: &mut [u32],
+) -> io::Result<()>
     requires { 2400 ≡ length vertices.old }
 {
-    let mut at: usize = 0;
+    let mut rest = words;
     loop {
-        let count = print_step(&words[at..], table, vertices, triangles);
+        let count = write_step(out, rest, table, vertices, triangles)?;
         if count == 0 {
-            return;
+            return Ok(());
         }
-        at += count;
+        rest = &rest[count..];
     }
 }

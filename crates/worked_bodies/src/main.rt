@@ -5,22 +5,27 @@
 
 mod cases;
 
-ghost use Rattle.std.specs.Prelude.{◌≡◌, ◌≤◌, length, take};
+ghost use Rattle.std.specs.Prelude.{◌≡◌, ◌≤◌, length};
 
 use crate::cases::{BODIES, CURVES, MOST_COORDINATES};
 use descriptions::{Counted, Described, Description, Verdict, of_kind};
 use float32::from_word;
-use hex_lines::{from_words, print_kind, print_triples, print_words, to_words};
+use hex_lines::{from_words, kind_name, to_words, write_triples, write_words};
+use std::io::{self, BufWriter, Write};
 
-// Prints the counts of the body along a curve with this number of vertices, or the number of its
+// Writes the counts of the body along a curve with this number of vertices, or the number of its
 // refusal.
-fn print_counts(description: Description, vertices: usize) {
+fn write_counts<W: Write>(
+    out: &mut W,
+    description: Description,
+    vertices: usize,
+) -> io::Result<()> {
     match description.counts(vertices) {
-        Counted::Refused(why) => print_words(&[why.number()], b'\n'),
+        Counted::Refused(why) => write_words(out, &[why.number()], '\n'),
         Counted::Counts {
             vertices,
             triangles,
-        } => print_words(&[vertices, triangles], b'\n'),
+        } => write_words(out, &[vertices, triangles], '\n'),
     }
 }
 
@@ -34,7 +39,7 @@ fn curve_words(place: u32) -> [u32; 16] {
 // Loads a curve of the table as floats, and answers how many coordinates it has.
 fn load_curve(words: [u32; 16], curve: &mut [f32]) -> usize
     requires { length curve.old ≡ 15 }
-    ensures { (result ≤ length curve.new) × (result ≡ length (take result curve.new)) }
+    ensures { result ≤ length curve.new }
 {
     from_words(&words[1..], curve);
     if words[0] <= 5 {
@@ -46,8 +51,8 @@ fn load_curve(words: [u32; 16], curve: &mut [f32]) -> usize
 
 // Writes the body's vertices to the front of `values`, and answers how many coordinates they
 // have: none where the body is refused.
-fn write_body(description: Description, curve: &[f32], values: &mut [f32]) -> usize
-    ensures { (result ≤ length values.new) × (result ≡ length (take result values.new)) }
+fn fill_body(description: Description, curve: &[f32], values: &mut [f32]) -> usize
+    ensures { result ≤ length values.new }
 {
     match bodies::check(description, curve) {
         Verdict::Refused(_) => 0,
@@ -72,37 +77,40 @@ fn described(case: [u32; 7]) -> Described {
     )
 }
 
-fn print_vertices_of(description: Description, curve: &[f32]) {
+fn write_vertices_of<W: Write>(
+    out: &mut W,
+    description: Description,
+    curve: &[f32],
+) -> io::Result<()> {
     let mut values = [0.0f32; MOST_COORDINATES];
     let mut words = [0u32; MOST_COORDINATES];
-    let count = write_body(description, curve, &mut values);
+    let count = fill_body(description, curve, &mut values);
     to_words(&values, &mut words);
-    print_triples(&words[..count]);
+    write_triples(out, &words[..count])
 }
 
-fn print_head(case: [u32; 7]) {
-    print_kind(case[0]);
-    print_words(&[case[1], case[2], case[3], case[4], case[5]], b' ');
+fn write_head<W: Write>(out: &mut W, case: [u32; 7]) -> io::Result<()> {
+    write!(out, "{} ", kind_name(case[0]))?;
+    write_words(out, &case[1..6], ' ')
 }
 
-fn print_body(case: [u32; 7]) {
+fn write_body<W: Write>(out: &mut W, case: [u32; 7]) -> io::Result<()> {
     let mut curve = [0.0f32; 15];
     let n = load_curve(curve_words(case[6]), &mut curve);
     match described(case) {
-        Described::Unknown => (),
+        Described::Unknown => Ok(()),
         Described::Known(description) => {
-            print_head(case);
-            print_counts(description, n / 3);
-            print_vertices_of(description, &curve[..n]);
+            write_head(out, case)?;
+            write_counts(out, description, n / 3)?;
+            write_vertices_of(out, description, &curve[..n])
         }
     }
 }
 
-fn main() {
-    let cases = BODIES;
-    let mut i: usize = 0;
-    while i < cases.len() {
-        print_body(cases[i]);
-        i += 1;
+fn main(rt: HostRuntime) -> io::Result<()> {
+    let mut out = BufWriter::new(rt.alloc(), io::writer(&rt))?;
+    for case in BODIES {
+        write_body(&mut out, case)?;
     }
+    out.flush()
 }

@@ -5,11 +5,12 @@
 
 mod cases;
 
-ghost use Rattle.io.specs.Counts.{IsPrefixLen};
+ghost use Rattle.std.specs.Prelude.{◌≤◌, length};
 
 use crate::cases::{LISTS, MOST_INDICES};
-use hex_lines::{print_kind, print_triples, print_words};
+use hex_lines::{kind_name, write_triples, write_words};
 use kinds::{Capsule, ClosedCylinder, Ribbon, Topology, Torus, Tube};
+use std::io::{self, BufWriter, Write};
 
 // A size of the table, all of which are below 2^16.
 fn size(word: u32) -> u16 {
@@ -48,20 +49,21 @@ fn body(case: [u32; 5]) -> Topology {
     }
 }
 
-fn print_head(case: [u32; 5]) {
+fn write_head<W: Write>(out: &mut W, case: [u32; 5]) -> io::Result<()> {
     let body = body(case);
-    print_kind(case[0]);
-    print_words(&[case[1], case[2], case[3], case[4]], b' ');
-    print_words(
+    write!(out, "{} ", kind_name(case[0]))?;
+    write_words(out, &case[1..], ' ')?;
+    write_words(
+        out,
         &[word(body.vertex_count()), word(body.triangle_count())],
-        b'\n',
-    );
+        '\n',
+    )
 }
 
 // Writes the body's list to the front of `indices`, and answers how many indices it has: none
 // where it cannot be written.
-fn write_list(body: Topology, first: u32, indices: &mut [u32]) -> usize
-    ensures { IsPrefixLen result indices.new }
+fn fill_list(body: Topology, first: u32, indices: &mut [u32]) -> usize
+    ensures { result ≤ length indices.new }
 {
     if body.write_triangles(first, indices) {
         return 3 * body.triangle_count() as usize;
@@ -69,18 +71,17 @@ fn write_list(body: Topology, first: u32, indices: &mut [u32]) -> usize
     0
 }
 
-fn print_list(case: [u32; 5]) {
-    print_head(case);
+fn write_list<W: Write>(out: &mut W, case: [u32; 5]) -> io::Result<()> {
+    write_head(out, case)?;
     let mut indices = [0u32; MOST_INDICES];
-    let n = write_list(body(case), case[4], &mut indices);
-    print_triples(&indices[..n]);
+    let n = fill_list(body(case), case[4], &mut indices);
+    write_triples(out, &indices[..n])
 }
 
-fn main() {
-    let cases = LISTS;
-    let mut i: usize = 0;
-    while i < cases.len() {
-        print_list(cases[i]);
-        i += 1;
+fn main(rt: HostRuntime) -> io::Result<()> {
+    let mut out = BufWriter::new(rt.alloc(), io::writer(&rt))?;
+    for case in LISTS {
+        write_list(&mut out, case)?;
     }
+    out.flush()
 }

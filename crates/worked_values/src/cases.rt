@@ -1,19 +1,7 @@
-// The cases, the same as in tests/src/cases.rs. A function of its own reads each table: one
-// function with all four tables as locals takes longer to check than the rest of the program.
-ghost use Rattle.std.specs.Prelude.{◌<◌};
-
-pub const ROOT_COUNT: usize = 64;
-
-pub const TURN_COUNT: usize = 45;
-
-pub const FIRST_FRAME_COUNT: usize = 31;
-
-pub const TRANSPORT_STEP_COUNT: usize = 25;
-
-pub const LINE_COUNT: usize = ROOT_COUNT + TURN_COUNT + FIRST_FRAME_COUNT + TRANSPORT_STEP_COUNT;
+// The cases, the same as in tests/src/cases.rs.
 
 // Bits of the numbers whose roots are worked out.
-const ROOTS: [u32; ROOT_COUNT] = [
+pub(crate) const ROOTS: [u32; 64] = [
     // both zeros
     0x00000000, 0x80000000,
     // subnormals: the smallest, both sides of 9 * 2^-140, the largest
@@ -39,7 +27,7 @@ const ROOTS: [u32; ROOT_COUNT] = [
 ];
 
 // Pairs of k and n whose direction is worked out.
-const TURNS: [[u32; 2]; TURN_COUNT] = [
+pub(crate) const TURNS: [[u32; 2]; 45] = [
     [0, 1],
     [0, 2],
     [1, 2],
@@ -89,7 +77,7 @@ const TURNS: [[u32; 2]; TURN_COUNT] = [
 ];
 
 // Bits of directions whose first frame is worked out.
-const FIRST_FRAMES: [[u32; 3]; FIRST_FRAME_COUNT] = [
+pub(crate) const FIRST_FRAMES: [[u32; 3]; 31] = [
     // the axes, both ways
     [0x3F800000, 0x00000000, 0x00000000],
     [0xBF800000, 0x00000000, 0x00000000],
@@ -132,7 +120,7 @@ const FIRST_FRAMES: [[u32; 3]; FIRST_FRAME_COUNT] = [
 
 // Bits of the segment before, the segment after and the frame whose transport is worked out.
 // Both segments are normalised first, the frame is taken as it is.
-const TRANSPORT_STEPS: [[[u32; 3]; 3]; TRANSPORT_STEP_COUNT] = [
+pub(crate) const TRANSPORT_STEPS: [[[u32; 3]; 3]; 25] = [
     // straight on: along z, with another length, among zeros of both signs, oblique
     [
         [0x00000000, 0x00000000, 0x3F800000],
@@ -267,31 +255,3 @@ const TRANSPORT_STEPS: [[[u32; 3]; 3]; TRANSPORT_STEP_COUNT] = [
         [0x00000000, 0x00000000, 0x3F800000],
     ],
 ];
-
-pub(crate) fn root_case(i: usize) -> u32
-    requires { i < 64 }
-{
-    let cases = ROOTS;
-    cases[i]
-}
-
-pub(crate) fn turn_case(i: usize) -> [u32; 2]
-    requires { i < 45 }
-{
-    let cases = TURNS;
-    cases[i]
-}
-
-pub(crate) fn first_frame_case(i: usize) -> [u32; 3]
-    requires { i < 31 }
-{
-    let cases = FIRST_FRAMES;
-    cases[i]
-}
-
-pub(crate) fn transport_step_case(i: usize) -> [[u32; 3]; 3]
-    requires { i < 25 }
-{
-    let cases = TRANSPORT_STEPS;
-    cases[i]
-}

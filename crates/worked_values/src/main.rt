@@ -5,14 +5,10 @@
 
 mod cases;
 
-ghost use Rattle.std.specs.Prelude.{◌<◌};
-
-use crate::cases::{
-    FIRST_FRAME_COUNT, LINE_COUNT, ROOT_COUNT, TURN_COUNT, first_frame_case, root_case,
-    transport_step_case, turn_case,
-};
+use crate::cases::{FIRST_FRAMES, ROOTS, TRANSPORT_STEPS, TURNS};
 use float32::{from_word, root, to_word};
-use hex_lines::print_words;
+use hex_lines::write_words;
+use std::io::{self, BufWriter, Write};
 use vec3::{Frame, Point, turn};
 
 fn point(w: [u32; 3]) -> Point {
@@ -27,23 +23,22 @@ fn words(p: Point) -> [u32; 3] {
     [to_word(p.x), to_word(p.y), to_word(p.z)]
 }
 
-fn print_root(x: u32) {
-    io::write_all(1, b"root ");
-    print_words(&[x, to_word(root(from_word(x)))], b'\n');
+fn write_root<W: Write>(out: &mut W, x: u32) -> io::Result<()> {
+    write!(out, "root ")?;
+    write_words(out, &[x, to_word(root(from_word(x)))], '\n')
 }
 
-fn print_turn(c: [u32; 2]) {
-    let d = turn(c[0], c[1]);
-    io::write_all(1, b"turn ");
-    print_words(&c, b' ');
-    print_words(&[to_word(d.cos), to_word(d.sin)], b'\n');
+fn write_turn<W: Write>(out: &mut W, k: u32, n: u32) -> io::Result<()> {
+    let d = turn(k, n);
+    write!(out, "turn ")?;
+    write_words(out, &[k, n, to_word(d.cos), to_word(d.sin)], '\n')
 }
 
-fn print_first_frame(v: [u32; 3]) {
-    let frame = Frame::first(point(v));
-    io::write_all(1, b"first_frame ");
-    print_words(&v, b' ');
-    print_words(&words(frame.ex), b'\n');
+fn write_first_frame<W: Write>(out: &mut W, direction: [u32; 3]) -> io::Result<()> {
+    let frame = Frame::first(point(direction));
+    write!(out, "first_frame ")?;
+    write_words(out, &direction, ' ')?;
+    write_words(out, &words(frame.ex), '\n')
 }
 
 // Both segments are normalised, the frame is taken as it is.
@@ -52,39 +47,38 @@ fn next_frame(before: [u32; 3], after: [u32; 3], b: [u32; 3]) -> Frame {
     frame.transport(point(before).normalize(), point(after).normalize())
 }
 
-fn print_transport_step(before: [u32; 3], after: [u32; 3], b: [u32; 3]) {
+fn write_transport_step<W: Write>(
+    out: &mut W,
+    before: [u32; 3],
+    after: [u32; 3],
+    b: [u32; 3],
+) -> io::Result<()> {
     let next = next_frame(before, after, b);
-    io::write_all(1, b"transport_step ");
-    print_words(&before, b' ');
-    print_words(&after, b' ');
-    print_words(&b, b' ');
-    print_words(&words(next.ex), b'\n');
+    write!(out, "transport_step ")?;
+    write_words(out, &before, ' ')?;
+    write_words(out, &after, ' ')?;
+    write_words(out, &b, ' ')?;
+    write_words(out, &words(next.ex), '\n')
 }
 
-// Prints line i: the roots come first, then the turns, the first frames and the transport steps.
-fn print_line(i: usize)
-    requires { i < 165 }
-{
-    if i < ROOT_COUNT {
-        return print_root(root_case(i));
+fn write_all<W: Write>(out: &mut W) -> io::Result<()> {
+    for x in ROOTS {
+        write_root(out, x)?;
     }
-    let i = i - ROOT_COUNT;
-    if i < TURN_COUNT {
-        return print_turn(turn_case(i));
+    for [k, n] in TURNS {
+        write_turn(out, k, n)?;
     }
-    let i = i - TURN_COUNT;
-    if i < FIRST_FRAME_COUNT {
-        return print_first_frame(first_frame_case(i));
+    for direction in FIRST_FRAMES {
+        write_first_frame(out, direction)?;
     }
-    let i = i - FIRST_FRAME_COUNT;
-    let c = transport_step_case(i);
-    print_transport_step(c[0], c[1], c[2]);
+    for [before, after, b] in TRANSPORT_STEPS {
+        write_transport_step(out, before, after, b)?;
+    }
+    Ok(())
 }
 
-fn main() {
-    let mut i: usize = 0;
-    while i < LINE_COUNT {
-        print_line(i);
-        i += 1;
-    }
+fn main(rt: HostRuntime) -> io::Result<()> {
+    let mut out = BufWriter::new(rt.alloc(), io::writer(&rt))?;
+    write_all(&mut out)?;
+    out.flush()
 }

@@ -1,13 +1,7 @@
--- Each turn of the loop stores one word behind the last. Assumes nothing.
-use mathlib.Core.Path.{◌≡◌, refl, sym, ap}
-use mathlib.Core.List.{List, [], ◌∷◌}
-use Prim.Native.Nat.{ℕ, ◌*◌, ◌-◌, ◌/◌, ◌≤◌}
-use native.Mathlib.Omega.{arith}
-use borrow.Author.Rules.{rules}
-use borrow.Author.Tests.{le-leb, lt-leb}
-use lib.ListN.{length, length-set}
-use Rattle.laws.specs.Overwrite.{overwrite, overwrite-none, one_store}
-use Rattle.laws.specs.Blocks.{blocks, one_more, all-written}
+-- Each turn of the loop stores one word behind the last.
+use Rattle.std.proofs.Common.{◌≡◌, List, ℕ, ◌*◌, ◌-◌, ◌≤◌}
+use Rattle.laws.specs.Overwrite.{overwrite}
+use Rattle.laws.specs.Blocks.{blocks}
 use Rattle.little_endian.specs.Words.{word_at}
 use Rattle.little_endian.proofs.read_words.Given as goal
 
@@ -16,7 +10,10 @@ abbrev pub here : List ℕ → ℕ → List ℕ
 here bytes i = word_at bytes (4 * i)
 
 abbrev pub invariant-loop-i : goal.invariant-loop-i
-invariant-loop-i l = (length l.out ≡ length l.initial.out) × (l.i ≤ l.count) × (l.out ≡ overwrite 0 (blocks l.i (here l.bytes)) l.initial.out)
+invariant-loop-i l = record {
+  within : l.i ≤ l.count;
+  stored : l.out ≡ overwrite 0 (blocks l.i (here l.bytes)) l.initial.out;
+}
 
 abbrev pub decreases-loop-i : goal.decreases-loop-i
 decreases-loop-i l = l.count - l.i

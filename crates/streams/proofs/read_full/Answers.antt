@@ -1,16 +1,12 @@
--- Each turn fills at least one byte more. Assumes nothing.
-use mathlib.Core.Path.{◌≡◌, refl}
-use Prim.Native.Nat.{◌-◌, ◌≤◌}
-use native.Mathlib.Omega.{arith}
-use lib.ListN.{length}
-use borrow.Author.Rules.{rules}
+use Rattle.std.proofs.Common.{◌-◌, length, sym, subst, rules}
+use Rattle.std.specs.Io.KnownBytes.{Consumes}
+use Rattle.std.proofs.KnownBytes.{Consumes-trans}
+use Rattle.streams.proofs.Kept.{front_filled}
 use Rattle.streams.proofs.read_full.Goals as goal
 
-pub loop-done-init : goal.loop-done-init
-loop-done-init c = (omega arith, refl)
-
-pub loop-done-smaller : goal.loop-done-smaller
-loop-done-smaller c = omega arith
-
 pub loop-done-preserved : goal.loop-done-preserved
-loop-done-preserved c = (omega arith, omega arith)
+loop-done-preserved g c =
+    let l = c.loop-done in
+    let fits = c.in-Ok.ensures.bound.0 in
+    let joined = front_filled l.done (length l.buf - l.done) c.in-Ok.more l.buf c.read_some.new.buf l.invariant.0 fits in
+    (search rules, subst (Consumes _ _) (sym joined) (Consumes-trans _ _ _ _ _ l.invariant.1 c.in-Ok.ensures.bytes.0))

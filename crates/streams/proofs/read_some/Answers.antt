@@ -1,18 +1,17 @@
--- Each turn leaves one fewer; the buffer keeps its length. Assumes nothing.
-use mathlib.Core.Path.{◌≡◌, refl}
-use native.Mathlib.Omega.{arith}
-use lib.ListN.{length}
-use borrow.Author.Rules.{rules}
+use Rattle.std.proofs.Common.{rules}
+use Rattle.std.proofs.KnownBytes.{Keeps-refl, Keeps-trans}
+use Rattle.streams.proofs.Kept.{kept_consumes}
 use Rattle.streams.proofs.read_some.Goals as goal
 
-pub loop-turns-init : goal.loop-turns-init
-loop-turns-init c = refl
+pub loop-init : goal.loop-init
+loop-init g c = Keeps-refl _
 
-pub overflow_sub-turns : goal.overflow_sub-turns
-overflow_sub-turns c = omega arith
+pub loop-preserved : goal.loop-preserved
+loop-preserved g c = Keeps-trans _ _ _ c.loop.invariant c.in-Err.ensures.bytes
 
-pub loop-turns-smaller : goal.loop-turns-smaller
-loop-turns-smaller c = omega arith
+pub returns-in-Ok-clause-bytes : goal.returns-in-Ok-clause-bytes
+returns-in-Ok-clause-bytes g c =
+    (kept_consumes _ _ _ _ c.loop.invariant c.in-Ok.ensures.bytes.0, c.in-Ok.ensures.bytes.1)
 
-pub loop-turns-preserved : goal.loop-turns-preserved
-loop-turns-preserved c = omega arith
+pub returns-then-not-is_interrupted-clause-bytes : goal.returns-then-not-is_interrupted-clause-bytes
+returns-then-not-is_interrupted-clause-bytes g c = Keeps-trans _ _ _ c.loop.invariant c.in-Err.ensures.bytes

@@ -1,12 +1,10 @@
--- Each turn writes at least one byte more. Assumes nothing.
-use Prim.Native.Nat.{◌-◌, ◌≤◌}
-use native.Mathlib.Omega.{arith}
-use lib.ListN.{length}
-use borrow.Author.Rules.{rules}
+-- The writer got the front of the buffer, and each turn some more.
+use Rattle.std.proofs.Common.{◌-◌, ◌≤◌, length, take}
+use Rattle.std.specs.Io.KnownBytes.{Appends}
 use Rattle.streams.proofs.write_all.Given as goal
 
 abbrev pub invariant-loop-done : goal.invariant-loop-done
-invariant-loop-done l = l.done ≤ length l.buf
+invariant-loop-done g l = (l.done ≤ length l.buf) × Appends (g.W.Write.contents l.fn.output) (g.W.Write.contents l.output) (take l.done l.buf)
 
 abbrev pub decreases-loop-done : goal.decreases-loop-done
-decreases-loop-done l = length l.buf - l.done
+decreases-loop-done g l = length l.buf - l.done

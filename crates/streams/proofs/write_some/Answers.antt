@@ -1,16 +1,16 @@
--- Each turn leaves one fewer. Assumes nothing.
-use native.Mathlib.Omega.{arith}
-use borrow.Author.Rules.{rules}
+use Rattle.std.proofs.Common.{rules}
+use Rattle.std.proofs.KnownBytes.{Keeps-refl, Keeps-trans}
+use Rattle.streams.proofs.Kept.{kept_appends}
 use Rattle.streams.proofs.write_some.Goals as goal
 
-pub loop-turns-init : goal.loop-turns-init
-loop-turns-init c = tt
+pub loop-init : goal.loop-init
+loop-init g c = Keeps-refl _
 
-pub overflow_sub-turns : goal.overflow_sub-turns
-overflow_sub-turns c = omega arith
+pub loop-preserved : goal.loop-preserved
+loop-preserved g c = Keeps-trans _ _ _ c.loop.invariant c.in-Err.ensures.bytes
 
-pub loop-turns-smaller : goal.loop-turns-smaller
-loop-turns-smaller c = omega arith
+pub returns-in-Ok-clause-bytes : goal.returns-in-Ok-clause-bytes
+returns-in-Ok-clause-bytes g c = kept_appends _ _ _ _ c.loop.invariant c.in-Ok.ensures.bytes
 
-pub loop-turns-preserved : goal.loop-turns-preserved
-loop-turns-preserved c = tt
+pub returns-then-not-is_interrupted-clause-bytes : goal.returns-then-not-is_interrupted-clause-bytes
+returns-then-not-is_interrupted-clause-bytes g c = Keeps-trans _ _ _ c.loop.invariant c.in-Err.ensures.bytes

@@ -1,16 +1,10 @@
 -- `curve::are_segments_permitted` meets its contract: the loop passes a segment only where it is
 -- permitted. Assumes nothing.
-use mathlib.Core.Path.{◌≡◌, refl, sym, ap, ◌∙◌}
-use mathlib.Core.Bool.{Bool, true, not}
-use mathlib.Core.List.{List}
-use Prim.Native.Nat.{ℕ, ◌-◌, ◌≤◌}
-use native.Mathlib.Omega.{arith}
-use borrow.Author.Rules.{rules}
-use lib.Ieee.{Float}
-use Rattle.laws.specs.Every.{every, every_more, every-fails}
+use Rattle.std.proofs.Common.{◌≡◌, Bool, true, not, List, ℕ, ◌-◌, ◌≤◌, Float}
+use Rattle.laws.specs.Every.{every}
 use Rattle.surface.specs.declared.grid.Chain.{Chain}
 use Rattle.curve.specs.Segments.{segmentOf}
-use Rattle.curve.specs.Checks.{segmentRefused, segmentsPermitted}
+use Rattle.curve.specs.Checks.{segmentRefused}
 use Rattle.curve.proofs.checks.are_segments_permitted.Given as goal
 
 abbrev pub permittedAt : Chain → ℕ → List Float → ℕ → Bool

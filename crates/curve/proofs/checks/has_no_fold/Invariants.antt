@@ -1,15 +1,9 @@
 -- `curve::has_no_fold` meets its contract: the loop passes a corner only where it is no fold.
 -- Assumes nothing.
-use mathlib.Core.Path.{◌≡◌, refl, sym, ap, ◌∙◌}
-use mathlib.Core.Bool.{Bool, true, not}
-use mathlib.Core.List.{List}
-use Prim.Native.Nat.{ℕ, ◌-◌, ◌≤◌}
-use native.Mathlib.Omega.{arith}
-use borrow.Author.Rules.{rules}
-use lib.Ieee.{Float}
-use Rattle.laws.specs.Every.{every, every_more, every-fails}
+use Rattle.std.proofs.Common.{◌≡◌, Bool, true, not, List, ℕ, ◌-◌, ◌≤◌, Float}
+use Rattle.laws.specs.Every.{every}
 use Rattle.surface.specs.declared.grid.Chain.{Chain}
-use Rattle.curve.specs.Checks.{isFold, cosineIn, noFoldIn}
+use Rattle.curve.specs.Checks.{isFold, cosineIn}
 use Rattle.curve.proofs.checks.has_no_fold.Given as goal
 
 abbrev pub permittedAt : Chain → ℕ → List Float → ℕ → Bool

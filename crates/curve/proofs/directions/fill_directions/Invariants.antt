@@ -1,16 +1,10 @@
 -- Each turn of the loop writes one direction after the last. Assumes nothing.
-use mathlib.Core.Path.{◌≡◌, refl, sym, ap}
-use mathlib.Core.List.{List}
-use Prim.Native.Nat.{ℕ, ◌*◌, ◌-◌, ◌≤◌}
-use native.Mathlib.Omega.{arith}
-use borrow.Author.Rules.{rules}
-use lib.Ieee.{Float}
-use lib.ListN.{length, length-set}
-use Rattle.laws.specs.Overwrite.{overwrite, overwrite-none, three-stores}
-use Rattle.laws.specs.Blocks.{blocks, one_more, all-written}
+use Rattle.std.proofs.Common.{◌≡◌, List, ℕ, ◌*◌, ◌-◌, ◌≤◌, Float, length}
+use Rattle.laws.specs.Overwrite.{overwrite}
+use Rattle.laws.specs.Blocks.{blocks}
 use Rattle.surface.specs.declared.grid.Chain.{Chain}
 use Rattle.vec3.specs.Points.{coordinates}
-use Rattle.curve.specs.Segments.{segmentDirection, directionsOf}
+use Rattle.curve.specs.Segments.{segmentDirection}
 use Rattle.curve.proofs.directions.fill_directions.Given as goal
 
 -- the coordinates of direction k

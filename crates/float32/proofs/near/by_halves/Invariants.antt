@@ -1,9 +1,6 @@
--- `float32::near::by_halves` meets its contract. The loop halves the gap between a number that is too low and one that is not. Assumes nothing.
-use Prim.Native.Nat.{ℕ, ◌+◌, ◌-◌, ◌*◌, ◌/◌, ◌≤◌, ◌<◌}
-use mathlib.Core.Path.{◌≡◌, subst}
-use native.Mathlib.Omega.{arith}
-use Rattle.float32.specs.Near.{Near}
-use Rattle.float32.proofs.Products.{product_le}
+-- `float32::near::by_halves` meets its contract. The loop halves the gap between a number that is
+-- too low and one that is not. Assumes nothing.
+use Prim.Native.Nat.{◌+◌, ◌-◌, ◌*◌, ◌≤◌, ◌<◌}
 use Rattle.float32.proofs.near.by_halves.Given as goal
 
 abbrev pub invariant-loop-lo : goal.invariant-loop-lo

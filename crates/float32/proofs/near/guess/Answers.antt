@@ -1,5 +1,4 @@
 -- `float32::near::guess` meets its contract: it makes no pattern of a NaN. Assumes nothing.
-use borrow.Author.Rules.{rules}
 use Prim.Native.Nat.{◌+◌, ◌-◌, ◌*◌, ◌/◌}
 use native.Mathlib.Omega.{arith}
 use lib.Ieee.{binary64}

@@ -1,5 +1,5 @@
--- `float32::near::near_root` meets its contract: q or the next number is handed back where the two tests show that it is the nearest. Assumes nothing.
-use borrow.Author.Rules.{rules}
+-- `float32::near::near_root` meets its contract: q or the next number is handed back where the two
+-- tests show that it is the nearest. Assumes nothing.
 use borrow.Author.Tests.{leb-true}
 use Prim.Native.Nat.{ℕ, ◌*◌, ◌%◌, ◌≤◌}
 use native.Mathlib.Omega.{arith}

@@ -1,5 +1,5 @@
--- `float32::root` meets its contract: the argument is the value of its own pattern, and each arm gives that value's root. Assumes nothing.
-use borrow.Author.Rules.{rules}
+-- `float32::root` meets its contract: the argument is the value of its own pattern, and each arm
+-- gives that value's root. Assumes nothing.
 use mathlib.Core.Path.{◌≡◌, sym, ap, ◌∙◌, subst}
 use lib.Dec.{T}
 use lib.Ieee.{Float, nan, binary32, of_bits, to_bits}

@@ -1,5 +1,5 @@
--- `float32::roots::root_bits` meets its contract: with 24 - o places more, what is left beside the square is an even power of two. Assumes nothing.
-use borrow.Author.Rules.{rules}
+-- `float32::roots::root_bits` meets its contract: with 24 - o places more, what is left beside the
+-- square is an even power of two. Assumes nothing.
 use Prim.Native.Nat.{ℕ, ◌-◌, ◌*◌, ◌≤◌, ◌<◌}
 use native.Mathlib.Omega.{arith}
 use Rattle.float32.specs.Near.{Near}

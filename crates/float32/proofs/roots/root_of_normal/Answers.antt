@@ -1,5 +1,5 @@
--- `float32::roots::root_of_normal` meets its contract: the pattern's last 23 digits with a leading one, at the place that the first ones give. Assumes nothing.
-use borrow.Author.Rules.{rules}
+-- `float32::roots::root_of_normal` meets its contract: the pattern's last 23 digits with a leading
+-- one, at the place that the first ones give. Assumes nothing.
 use mathlib.Core.Path.{◌≡◌, ap, ◌∙◌}
 use Prim.Native.Nat.{ℕ, ◌+◌, ◌-◌, ◌*◌, ◌/◌, ◌%◌, ◌^◌, ◌≤◌}
 use native.Mathlib.Nat.{mul-pos}

@@ -1,4 +1,5 @@
--- `float32::roots::root_of_rest` meets its contract: -0 and the infinity are their own roots, and no other value here has one. Assumes nothing.
+-- `float32::roots::root_of_rest` meets its contract: -0 and the infinity are their own roots, and
+-- no other value here has one. Assumes nothing.
 use borrow.Author.Rules.{rules}
 use mathlib.Core.Path.{sym, ◌∙◌}
 use lib.Ieee.{of_bits, neg, div}

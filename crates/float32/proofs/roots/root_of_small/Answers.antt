@@ -1,5 +1,5 @@
--- `float32::roots::root_of_small` meets its contract: the pattern is how many of the smallest value there are. Assumes nothing.
-use borrow.Author.Rules.{rules}
+-- `float32::roots::root_of_small` meets its contract: the pattern is how many of the smallest
+-- value there are. Assumes nothing.
 use mathlib.Core.Path.{◌≡◌, sym, ap, ◌∙◌}
 use Prim.Native.Nat.{ℕ, ◌+◌, ◌-◌, ◌*◌, ◌/◌, ◌%◌, ◌^◌, ◌≤◌}
 use native.Mathlib.Nat.{mod-eq_of_lt, pos_of_ne-zero}

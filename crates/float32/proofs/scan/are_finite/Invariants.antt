@@ -1,17 +1,13 @@
--- `float32::are_finite` meets its contract: after each turn `all` tells whether all values passed are finite. Assumes nothing.
-use mathlib.Core.Path.{◌≡◌, refl, sym, ◌∙◌}
+-- `float32::are_finite` meets its contract: after each turn `all` tells whether all values passed
+-- are finite. Assumes nothing.
+use mathlib.Core.Path.{◌≡◌}
 use mathlib.Core.Bool.{Bool}
-use mathlib.Core.Logic.{⊎_elim}
 use mathlib.Core.List.{List}
 use Prim.Native.Nat.{ℕ, ◌-◌, ◌≤◌}
-use native.Mathlib.Omega.{arith}
-use borrow.Author.Rules.{rules}
-use borrow.Author.Tests.{not-true, not-false}
 use lib.Ieee.{Float, nan}
 use lib.Ieee.Scale.{finite}
 use lib.ListN.{length, get_or}
-use Rattle.laws.specs.Every.{every, flag-kept, flag_cleared}
-use Rattle.float32.specs.Scan.{allFinite}
+use Rattle.laws.specs.Every.{every}
 use Rattle.float32.proofs.scan.are_finite.Given as goal
 
 abbrev pub finiteAt : List Float → ℕ → Bool

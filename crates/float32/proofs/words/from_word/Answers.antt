@@ -1,5 +1,5 @@
--- `float32::from_word` meets its contract: the first test tells the patterns of a NaN. Assumes nothing.
-use borrow.Author.Rules.{rules}
+-- `float32::from_word` meets its contract: the first test tells the patterns of a NaN. Assumes
+-- nothing.
 use mathlib.Core.Path.{sym, ◌∙◌}
 use lib.Ieee.{binary32}
 use Rattle.float32.proofs.NanPatterns.{number-bits, nan-bits, zero-over-zero}

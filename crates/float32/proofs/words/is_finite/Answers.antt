@@ -1,4 +1,5 @@
--- `float32::is_finite` meets its contract: only the infinities and a NaN do not lie between the infinities. Assumes nothing.
+-- `float32::is_finite` meets its contract: only the infinities and a NaN do not lie between the
+-- infinities. Assumes nothing.
 use mathlib.Core.Path.{◌≡◌, refl, sym}
 use mathlib.Core.Bool.{true, false}
 use lib.Ieee.{Float, nan, inf, fin, lt, neg, div, of_bits}

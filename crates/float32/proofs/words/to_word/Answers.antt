@@ -1,5 +1,4 @@
 -- `float32::to_word` meets its contract: only a NaN differs from itself. Assumes nothing.
-use borrow.Author.Rules.{rules}
 use mathlib.Core.Path.{sym, ap, subst}
 use lib.Dec.{T}
 use lib.Ieee.{binary32, to_bits}

@@ -1,13 +1,12 @@
--- `float32::fill_zeros` meets its contract: each turn stores one +0 behind the last. Assumes nothing.
+-- `float32::fill_zeros` meets its contract: each turn stores one +0 behind the last. Assumes
+-- nothing.
 use mathlib.Core.Path.{◌≡◌, refl, sym, ◌∙◌}
-use mathlib.Core.List.{List, [], ◌∷◌}
-use Prim.Native.Nat.{ℕ, ◌-◌, ◌≤◌}
 use native.Mathlib.Omega.{arith}
-use lib.Ieee.{Float, binary32, of_bits}
+use lib.Ieee.{binary32, of_bits}
 use lib.ListN.{length, length-set}
-use Rattle.laws.specs.Overwrite.{overwrite, overwrite-none, one_store}
+use Rattle.laws.specs.Overwrite.{overwrite-none, one_store}
 use Rattle.laws.specs.Overlaps.{overwrite-all}
-use Rattle.laws.specs.Blocks.{blocks, one_more, all-written}
+use Rattle.laws.specs.Blocks.{one_more, all-written}
 use Rattle.float32.specs.Zeros.{zeros}
 use Rattle.float32.proofs.ZeroCounts.{length-zeros}
 use Rattle.float32.proofs.zeros.fill_zeros.Invariants.{zero}

@@ -1,15 +1,12 @@
--- `float32::fill_zeros` meets its contract: each turn stores one +0 behind the last. Assumes nothing.
-use mathlib.Core.Path.{◌≡◌, refl, sym, ◌∙◌}
+-- `float32::fill_zeros` meets its contract: each turn stores one +0 behind the last. Assumes
+-- nothing.
+use mathlib.Core.Path.{◌≡◌}
 use mathlib.Core.List.{List, [], ◌∷◌}
 use Prim.Native.Nat.{ℕ, ◌-◌, ◌≤◌}
-use native.Mathlib.Omega.{arith}
 use lib.Ieee.{Float, binary32, of_bits}
-use lib.ListN.{length, length-set}
-use Rattle.laws.specs.Overwrite.{overwrite, overwrite-none, one_store}
-use Rattle.laws.specs.Overlaps.{overwrite-all}
-use Rattle.laws.specs.Blocks.{blocks, one_more, all-written}
-use Rattle.float32.specs.Zeros.{zeros}
-use Rattle.float32.proofs.ZeroCounts.{length-zeros}
+use lib.ListN.{length}
+use Rattle.laws.specs.Overwrite.{overwrite}
+use Rattle.laws.specs.Blocks.{blocks}
 use Rattle.float32.proofs.zeros.fill_zeros.Given as goal
 
 abbrev pub zero : ℕ → List Float

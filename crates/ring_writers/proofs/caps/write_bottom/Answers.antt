@@ -1,7 +1,6 @@
 -- The pole, followed by the rings. Assumes nothing.
 use mathlib.Core.Path.{refl, ap, ◌∙◌}
 use native.Mathlib.Omega.{arith}
-use lib.ListN.{length}
 use Rattle.laws.specs.Overwrite.{overwrite, written_behind}
 use Rattle.laws.specs.Lent.{length_rest, lent-from}
 use Rattle.surface.specs.declared.caps.End.TheVariants.{Bottom}
@@ -9,25 +8,18 @@ use Rattle.vec3.specs.Points.{coordinates, differenceOf}
 use Rattle.vec3.specs.declared.points.Point.{Point}
 use Rattle.rings.specs.Vertices.{bottomPole}
 use Rattle.ring_writers.specs.Caps.{capRings}
-use borrow.Author.Rules.{rules}
 use Rattle.ring_writers.proofs.caps.write_bottom.Goals as goal
 
-pub put_point-requires : goal.put_point-requires
-put_point-requires c = omega arith
-
-pub write_cap-requires : goal.write_cap-requires
-write_cap-requires c = let p = (goal.at.write_cap-requires c).After-put_point in
-    let s = p.before.before.before.before.before.before in
-    (omega (arith, length_rest 3 p.put-point.new.0, p.put-point.auto.0, s.requires.0), s.requires.1)
+pub write_cap-requires-clause-room : goal.write_cap-requires-clause-room
+write_cap-requires-clause-room c =
+    omega (arith, length_rest 3 c.put_point.new.out, c.put_point.auto.out, c.requires.room)
 
 pub returns : goal.returns
 unfolding bottomPole
-returns c = let w = (goal.at.returns c).After-write_cap in
-    let p = w.before.before.before.before in
-    let a = p.before.before.before.before.before.before.args in
-    let old = a.out.now in
+returns c =
+    let a = c.args in
     let rings = capRings Bottom a.axes a.radius a.longitudes a.n in
-    let pole = p.before.sub.ensures ∙ ap (differenceOf a.axes.origin) p.before.before.scale.ensures in
-    written_behind 0 (coordinates (bottomPole a.axes a.radius)) rings old
-    (p.put-point.ensures ∙ ap (λ (q : Point). overwrite 0 (coordinates q) old) pole) refl
-    (lent-from 3 rings p.put-point.new.0 w.write-cap.ensures)
+    let pole = c.sub.ensures ∙ ap (differenceOf a.axes.origin) c.scale.ensures in
+    written_behind 0 (coordinates (bottomPole a.axes a.radius)) rings a.out.now
+    (c.put_point.ensures ∙ ap (λ (q : Point). overwrite 0 (coordinates q) a.out.now) pole) refl
+    (lent-from 3 rings c.put_point.new.out c.write_cap.ensures)

@@ -1,19 +1,14 @@
 -- Each turn of the loop writes one ring after the one before. Assumes nothing.
-use mathlib.Core.Path.{◌≡◌, refl, sym, ◌∙◌}
+use mathlib.Core.Path.{◌≡◌}
 use mathlib.Core.List.{List}
-use Prim.Native.Nat.{ℕ, ◌+◌, ◌*◌, ◌-◌, ◌≤◌}
-use native.Mathlib.Omega.{arith}
-use borrow.Author.Rules.{rules}
+use Prim.Native.Nat.{ℕ, ◌*◌, ◌-◌, ◌≤◌}
 use lib.Ieee.{Float}
 use lib.ListN.{length}
-use Rattle.laws.specs.Overwrite.{overwrite, overwrite-none}
-use Rattle.laws.specs.Blocks.{blocks, one_more, all-written}
-use Rattle.laws.specs.Products.{next_row, row_within}
+use Rattle.laws.specs.Overwrite.{overwrite}
+use Rattle.laws.specs.Blocks.{blocks}
 use Rattle.surface.specs.declared.caps.End.{End}
 use Rattle.rings.specs.Vertices.{ringOf, capVertex}
 use Rattle.rings.specs.declared.axes.Axes.{Axes}
-use Rattle.rings.proofs.RingVertices.{cap-ring}
-use Rattle.ring_writers.proofs.Lengths.{length-ring}
 use Rattle.ring_writers.proofs.caps.write_cap.Given as goal
 
 -- ring j of the cap

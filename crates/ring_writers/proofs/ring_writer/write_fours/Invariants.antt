@@ -1,17 +1,11 @@
 -- Each turn of the loop writes four vertices after those before. Assumes nothing.
-use mathlib.Core.Path.{◌≡◌, refl, sym, ap, ◌∙◌}
-use mathlib.Core.List.{List}
-use Prim.Native.Nat.{ℕ, ◌+◌, ◌*◌, ◌-◌, ◌≤◌}
-use native.Mathlib.Omega.{arith}
-use borrow.Author.Rules.{rules}
-use lib.Ieee.{Float}
+use mathlib.Core.Path.{◌≡◌}
+use Prim.Native.Nat.{◌+◌, ◌*◌, ◌-◌, ◌≤◌}
 use lib.ListN.{length}
-use Rattle.laws.specs.Overwrite.{overwrite, overwrite-none}
-use Rattle.laws.specs.Blocks.{blocks, some_more}
+use Rattle.laws.specs.Overwrite.{overwrite}
+use Rattle.laws.specs.Blocks.{blocks}
 use Rattle.rings.specs.Vertices.{vertexOn}
-use Rattle.rings.specs.Rings.{inOrder, ringVertex, fourOf}
-use Rattle.ring_writers.specs.Tables.{fourCoordinates}
-use Rattle.ring_writers.proofs.Tables.{four-vertices}
+use Rattle.rings.specs.Rings.{ringVertex}
 use Rattle.ring_writers.proofs.ring_writer.write_fours.Given as goal
 
 abbrev pub invariant-loop-i : goal.invariant-loop-i

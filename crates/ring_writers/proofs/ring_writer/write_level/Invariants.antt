@@ -1,16 +1,10 @@
 -- Each turn of the loop writes one vertex after the one before. Assumes nothing.
-use mathlib.Core.Path.{◌≡◌, refl, sym, ap, ◌∙◌}
-use mathlib.Core.List.{List}
-use Prim.Native.Nat.{ℕ, ◌+◌, ◌*◌, ◌-◌, ◌≤◌}
-use native.Mathlib.Omega.{arith}
-use borrow.Author.Rules.{rules}
-use lib.Ieee.{Float}
+use mathlib.Core.Path.{◌≡◌}
+use Prim.Native.Nat.{◌*◌, ◌-◌, ◌≤◌}
 use lib.ListN.{length}
-use Rattle.laws.specs.Overwrite.{overwrite, overwrite-none}
-use Rattle.laws.specs.Blocks.{blocks, one_more, all-written}
-use Rattle.vec3.specs.Points.{coordinates}
+use Rattle.laws.specs.Overwrite.{overwrite}
+use Rattle.laws.specs.Blocks.{blocks}
 use Rattle.rings.specs.Vertices.{vertexOn, levelAt}
-use Rattle.ring_writers.proofs.Tables.{direction-at}
 use Rattle.ring_writers.proofs.ring_writer.write_level.Given as goal
 
 abbrev pub invariant-loop-i : goal.invariant-loop-i

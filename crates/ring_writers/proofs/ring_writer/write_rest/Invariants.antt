@@ -1,18 +1,14 @@
 -- Each turn of the loop writes one vertex after the one before. Assumes nothing.
-use mathlib.Core.Path.{◌≡◌, refl, sym, ap, ◌∙◌}
+use mathlib.Core.Path.{◌≡◌}
 use mathlib.Core.List.{List}
 use Prim.Native.Nat.{ℕ, ◌+◌, ◌*◌, ◌-◌, ◌≤◌}
-use native.Mathlib.Omega.{arith}
-use borrow.Author.Rules.{rules}
 use lib.Ieee.{Float}
 use lib.ListN.{length}
-use Rattle.laws.specs.Overwrite.{overwrite, overwrite-none}
-use Rattle.laws.specs.Blocks.{blocks, one_more, all-written}
-use Rattle.vec3.specs.Points.{coordinates}
+use Rattle.laws.specs.Overwrite.{overwrite}
+use Rattle.laws.specs.Blocks.{blocks}
 use Rattle.rings.specs.Vertices.{vertexOn}
-use Rattle.rings.specs.Rings.{inOrder, ringVertex}
+use Rattle.rings.specs.Rings.{ringVertex}
 use Rattle.rings.specs.declared.ring.Ring.{Ring}
-use Rattle.ring_writers.proofs.Tables.{vertex-at}
 use Rattle.ring_writers.proofs.ring_writer.write_rest.Given as goal
 
 -- vertex j after the first ones

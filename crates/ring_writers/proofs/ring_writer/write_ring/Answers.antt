@@ -5,16 +5,15 @@ use native.Mathlib.Omega.{arith}
 use Rattle.laws.specs.Blocks.{some_more, all-written}
 use Rattle.rings.specs.Vertices.{vertexOn}
 use Rattle.rings.specs.Rings.{ringVertex}
-use borrow.Author.Rules.{rules}
 use Rattle.ring_writers.proofs.ring_writer.write_ring.Goals as goal
 
 pub returns : goal.returns
-returns c = let r = (goal.at.returns c).After-write_rest in
-    let f = r.before.before.before.before in
-    let a = f.before.before.before.before.args in
-    let done = f.write-fours.result in
+returns c =
+    let a = c.args in
+    let fours = c.write_fours-written in
+    let done = fours.result in
     let vertex = vertexOn (ringVertex a.ring) a.n in
-    let all : done + (a.n - done) ≡ a.n = omega (arith, f.write-fours.ensures.0) in
+    let all : done + (a.n - done) ≡ a.n = omega (arith, fours.ensures.within) in
     all-written a.at vertex a.out.now
-    (some_more a.at done (a.n - done) 3 vertex a.out.now (λ k h. refl) f.write-fours.ensures.1 refl
-    r.write-rest.ensures refl) all
+    (some_more a.at done (a.n - done) 3 vertex a.out.now (λ k h. refl) fours.ensures.written refl
+    c.write_rest.ensures refl) all

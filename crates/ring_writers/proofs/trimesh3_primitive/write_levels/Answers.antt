@@ -1,66 +1,48 @@
 -- Each turn of the loop writes one ring after the one before. Assumes nothing.
 use mathlib.Core.Path.{◌≡◌, refl, sym, ◌∙◌}
-use mathlib.Core.List.{List}
-use Prim.Native.Nat.{ℕ, ◌+◌, ◌*◌, ◌-◌, ◌≤◌}
+use Prim.Native.Nat.{◌+◌, ◌*◌, ◌≤◌}
 use native.Mathlib.Omega.{arith}
-use borrow.Author.Rules.{rules}
-use lib.Ieee.{Float}
 use lib.ListN.{length}
-use Rattle.laws.specs.Overwrite.{overwrite, overwrite-none}
-use Rattle.laws.specs.Blocks.{blocks, one_more, all-written}
+use Rattle.laws.specs.Overwrite.{overwrite-none}
+use Rattle.laws.specs.Blocks.{one_more, all-written}
 use Rattle.laws.specs.Products.{next_row, row_within}
 use Rattle.vec3.specs.Turns.{whole}
-use Rattle.rings.specs.Vertices.{ringOf, levelVertex}
+use Rattle.rings.specs.Vertices.{levelVertex}
 use Rattle.ring_writers.proofs.Lengths.{length-ring}
 use Rattle.ring_writers.proofs.trimesh3_primitive.write_levels.Invariants.{ringAt}
 use Rattle.ring_writers.proofs.trimesh3_primitive.write_levels.Goals as goal
 use Rattle.ring_writers.proofs.trimesh3_primitive.write_levels.Goals.{In-loop-g}
 
-pub overflow_mul-size : goal.overflow_mul-size
-overflow_mul-size c = omega arith
-
 -- the ring of a turn has room
-room : (c : In-loop-g) → let a = c.args in
-    c.loop-g.place + a.n * 3 ≤ length a.out.now
-room c = let s = c.before.before.before.before.before in
-    omega (arith, row_within c.loop-g.g (s.args.layers + 1) (s.args.n * 3) (omega arith), s.requires.1)
+room : (c : In-loop-g) → c.loop-g.place + c.args.n * 3 ≤ length c.args.out.now
+room c = omega (arith, row_within c.loop-g.g (c.args.layers + 1) (c.args.n * 3) (omega arith), c.requires.room)
 
 pub loop-g-init : goal.loop-g-init
 loop-g-init c = (sym (overwrite-none _ _), omega arith, omega arith, refl)
 
-pub write_level-requires : goal.write_level-requires
-write_level-requires c = (
-  omega (arith, room (goal.at.write_level-requires c).In-loop-g),
-  c.requires.2,
-)
+pub write_level-requires-clause-room : goal.write_level-requires-clause-room
+write_level-requires-clause-room c = omega (arith, room (goal.at.write_level-requires-clause-room c).In-loop-g)
 
 pub overflow_add-place : goal.overflow_add-place
 overflow_add-place c = omega (arith, room (goal.at.overflow_add-place c).In-loop-g)
 
-pub overflow_add-g : goal.overflow_add-g
-overflow_add-g c = omega arith
-
-pub loop-g-smaller : goal.loop-g-smaller
-loop-g-smaller c = omega arith
-
 pub loop-g-preserved : goal.loop-g-preserved
 unfolding whole
-loop-g-preserved c = let l = c.loop-g in
+loop-g-preserved c =
+    let l = c.loop-g in
     let a = c.args in
     let f = ringAt a.radius a.low a.height a.layers a.n in (
-      one_more 0 l.g (a.n * 3) f a.out.now (λ k h. length-ring
-          (levelVertex a.radius a.low a.height a.layers k) a.n) l.invariant.0
+      one_more 0 l.g (a.n * 3) f a.out.now
+          (λ k h. length-ring (levelVertex a.radius a.low a.height a.layers k) a.n) l.invariant.0
           (omega arith) c.write_level.ensures refl,
       omega (arith, next_row l.g (a.n * 3)),
       omega arith,
-      c.write_level.auto.0 ∙ l.invariant.3,
+      c.write_level.auto.out ∙ l.invariant.3,
     )
 
-pub shape_of-out : goal.shape_of-out
-shape_of-out c = c.loop-g.invariant.3
-
 pub returns : goal.returns
-returns c = let o = c.loop-g in
+returns c =
+    let o = c.loop-g in
     let a = c.args in
     let e : o.g ≡ a.layers + 1 = omega arith in
     all-written 0 (ringAt a.radius a.low a.height a.layers a.n) a.out.now o.invariant.0 e

@@ -1,17 +1,12 @@
 -- Each turn of the loop writes one ring after the one before. Assumes nothing.
-use mathlib.Core.Path.{◌≡◌, refl, sym, ◌∙◌}
+use mathlib.Core.Path.{◌≡◌}
 use mathlib.Core.List.{List}
 use Prim.Native.Nat.{ℕ, ◌+◌, ◌*◌, ◌-◌, ◌≤◌}
-use native.Mathlib.Omega.{arith}
-use borrow.Author.Rules.{rules}
 use lib.Ieee.{Float}
 use lib.ListN.{length}
-use Rattle.laws.specs.Overwrite.{overwrite, overwrite-none}
-use Rattle.laws.specs.Blocks.{blocks, one_more, all-written}
-use Rattle.laws.specs.Products.{next_row, row_within}
-use Rattle.vec3.specs.Turns.{whole}
+use Rattle.laws.specs.Overwrite.{overwrite}
+use Rattle.laws.specs.Blocks.{blocks}
 use Rattle.rings.specs.Vertices.{ringOf, levelVertex}
-use Rattle.ring_writers.proofs.Lengths.{length-ring}
 use Rattle.ring_writers.proofs.trimesh3_primitive.write_levels.Given as goal
 
 -- ring g

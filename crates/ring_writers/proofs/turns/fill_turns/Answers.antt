@@ -2,17 +2,14 @@
 -- it; neither half of the table reaches into the other. Assumes nothing.
 use mathlib.Core.Path.{◌≡◌, refl, sym, ap, ◌∙◌}
 use mathlib.Core.List.{List}
-use Prim.Native.Nat.{ℕ, ◌+◌, ◌*◌, ◌-◌, ◌≤◌, ◌<◌}
+use Prim.Native.Nat.{ℕ, ◌+◌, ◌*◌, ◌<◌}
 use native.Mathlib.Omega.{arith}
-use borrow.Author.Rules.{rules}
 use lib.Ieee.{Float}
 use lib.ListN.{length}
 use Rattle.laws.specs.Overwrite.{overwrite, overwrite-none, length-overwrite}
 use Rattle.laws.specs.Overlaps.{overwrite-swap}
 use Rattle.laws.specs.Blocks.{blocks, one_more, length-blocks}
 use Rattle.vec3.specs.Points.{coordinates, thrice}
-use Rattle.vec3.specs.Turns.{turn_of}
-use Rattle.vec3.specs.declared.points.Point.{Point}
 use Rattle.vec3.specs.declared.turns.Direction.{Direction}
 use Rattle.curve.specs.Segments.{pointAt}
 use Rattle.ring_writers.proofs.Tables.{table-point}
@@ -36,53 +33,27 @@ cosine-written n i t₀ {t} h before place written is =
 pub loop-i-init : goal.loop-i-init
 loop-i-init c = (sym (overwrite-none _ _ ∙ overwrite-none _ _), omega arith, omega arith, refl)
 
-pub overflow_cast-i : goal.overflow_cast-i
-overflow_cast-i c = omega arith
-
-pub put_point-requires : goal.put_point-requires
-put_point-requires c = omega arith
-
-pub overflow_add-place : goal.overflow_add-place
-overflow_add-place c = omega arith
-
-pub put_point-requires-in-loop-i : goal.put_point-requires-in-loop-i
-put_point-requires-in-loop-i c = let same = c.put_point.auto.0 in omega arith
-
-pub overflow_add-place-in-loop-i : goal.overflow_add-place-in-loop-i
-overflow_add-place-in-loop-i c = omega arith
-
-pub overflow_add-i : goal.overflow_add-i
-overflow_add-i c = omega arith
-
-pub loop-i-smaller : goal.loop-i-smaller
-loop-i-smaller c = omega arith
-
 pub loop-i-preserved : goal.loop-i-preserved
-loop-i-preserved c = let w = (goal.at.loop-i-preserved c).After-put_point-in-loop-i in
-    let v = w.before.before.before.before.before in
-    let t = v.before.before.before in
-    let l = t.before.before.loop in
-    let a = t.before.before.before.before.args in
-    let d = t.turn.ensures in (
+loop-i-preserved c =
+    let l = c.loop-i in
+    let a = c.args in
+    let d = c.turn-d.ensures in (
       one_more 768 l.i 3 (λ k. coordinates (sine a.n k))
           (overwrite 0 (blocks (l.i + 1) (λ k. coordinates (cosine a.n k))) a.turns.now) (λ k h. refl)
-          (cosine-written a.n l.i a.turns.now (omega arith) l.invariant.0 l.invariant.1 v.put-point.ensures
-          (ap coordinates (v.before.thrice.ensures ∙ ap (λ (d : Direction). thrice d.cos) d)))
-          (omega arith) w.put-point2.ensures
-          (ap coordinates (w.before.thrice2.ensures ∙ ap (λ (d : Direction). thrice d.sin) d)),
+          (cosine-written a.n l.i a.turns.now (omega arith) l.invariant.0 l.invariant.1 c.put_point.ensures
+          (ap coordinates (c.thrice.ensures ∙ ap (λ (d : Direction). thrice d.cos) d)))
+          (omega arith) c.put_point-in-loop-i.ensures
+          (ap coordinates (c.thrice-in-loop-i.ensures ∙ ap (λ (d : Direction). thrice d.sin) d)),
       omega arith,
       omega arith,
-      w.put-point2.auto.0 ∙ v.put-point.auto.0 ∙ l.invariant.3,
+      c.put_point-in-loop-i.auto.out ∙ c.put_point.auto.out ∙ l.invariant.3,
     )
 
-pub shape_of-turns : goal.shape_of-turns
-shape_of-turns c = c.loop-i.invariant.3
-
 pub returns : goal.returns
-returns c = let o = c.loop-i in
-    let s = (goal.at.returns c).Start in
-    let n = s.args.n in
-    let t₀ = s.args.turns.now in
+returns c =
+    let o = c.loop-i in
+    let n = c.args.n in
+    let t₀ = c.args.turns.now in
     let e : o.i ≡ n = omega arith in
     let cosines = blocks n (λ k. coordinates (cosine n k)) in
     let sines = blocks n (λ k. coordinates (sine n k)) in
@@ -90,7 +61,7 @@ returns c = let o = c.loop-i in
     let short : length cosines ≡ n * 3 = length-blocks 3 n (λ k. coordinates (cosine n k)) (λ k h. refl) in
     let is = o.invariant.0 ∙ ap (λ (i : ℕ). filled n i i t₀) e in
     record {
-      most = s.requires.0;
+      most = c.requires.most;
       room = omega arith;
       cosine = λ k h. ap (λ (t : List Float). pointAt t (k * 3))
           (is ∙ overwrite-swap 0 768 cosines sines t₀ (omega arith))

@@ -1,21 +1,15 @@
 -- Each turn of the loop writes one cosine after those before it, and one sine after those before
 -- it; neither half of the table reaches into the other. Assumes nothing.
-use mathlib.Core.Path.{◌≡◌, refl, sym, ap, ◌∙◌}
+use mathlib.Core.Path.{◌≡◌}
 use mathlib.Core.List.{List}
-use Prim.Native.Nat.{ℕ, ◌+◌, ◌*◌, ◌-◌, ◌≤◌, ◌<◌}
-use native.Mathlib.Omega.{arith}
-use borrow.Author.Rules.{rules}
+use Prim.Native.Nat.{ℕ, ◌*◌, ◌-◌, ◌≤◌}
 use lib.Ieee.{Float}
 use lib.ListN.{length}
-use Rattle.laws.specs.Overwrite.{overwrite, overwrite-none, length-overwrite}
-use Rattle.laws.specs.Overlaps.{overwrite-swap}
-use Rattle.laws.specs.Blocks.{blocks, one_more, length-blocks}
+use Rattle.laws.specs.Overwrite.{overwrite}
+use Rattle.laws.specs.Blocks.{blocks}
 use Rattle.vec3.specs.Points.{coordinates, thrice}
 use Rattle.vec3.specs.Turns.{turn_of}
 use Rattle.vec3.specs.declared.points.Point.{Point}
-use Rattle.vec3.specs.declared.turns.Direction.{Direction}
-use Rattle.curve.specs.Segments.{pointAt}
-use Rattle.ring_writers.proofs.Tables.{table-point}
 use Rattle.ring_writers.proofs.turns.fill_turns.Given as goal
 
 -- cosine and sine of direction k, three times

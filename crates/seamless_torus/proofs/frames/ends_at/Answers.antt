@@ -1,5 +1,4 @@
 -- Each call gives what the definition names. Assumes nothing.
-use borrow.Author.Rules.{rules}
 use Rattle.seamless_torus.specs.Frames.{ends_at}
 use Rattle.seamless_torus.proofs.frames.ends_at.Goals as goal
 

@@ -1,20 +1,15 @@
 -- The first frame is written before the loop, and each turn carries the frame one segment on and
 -- writes it after the one before. Assumes nothing.
-use mathlib.Core.Path.{◌≡◌, refl, sym, ap, ◌∙◌}
+use mathlib.Core.Path.{◌≡◌}
 use mathlib.Core.List.{List}
 use Prim.Native.Nat.{ℕ, ◌+◌, ◌*◌, ◌-◌, ◌≤◌}
-use native.Mathlib.Omega.{arith}
-use borrow.Author.Rules.{rules}
 use lib.Ieee.{Float}
 use lib.ListN.{length}
-use Rattle.laws.specs.Overwrite.{overwrite, overwrite-none}
-use Rattle.laws.specs.Blocks.{blocks, one_more, all-written, first-and-others}
+use Rattle.laws.specs.Overwrite.{overwrite}
+use Rattle.laws.specs.Blocks.{blocks}
 use Rattle.vec3.specs.Points.{coordinates}
-use Rattle.curve.specs.Segments.{pointAt}
-use Rattle.curve.specs.Framex.{carriedOn}
 use Rattle.curve.specs.declared.framex.Carried.{Carried}
 use Rattle.swept_bodies.specs.Tables.{carriedIn}
-use Rattle.swept_bodies.proofs.Axes.{carried_on}
 use Rattle.seamless_torus.proofs.frames.fill_frames.Given as goal
 
 -- the coordinates of a frame that is carried

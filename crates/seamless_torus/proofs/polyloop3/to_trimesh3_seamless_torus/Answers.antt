@@ -1,7 +1,6 @@
 -- The rings are written with the twist that was found and with the radius that goes with it, and
 -- these two are the definition's. Assumes nothing.
 use mathlib.Core.Path.{ap, ◌∙◌}
-use borrow.Author.Rules.{rules}
 use Rattle.laws.specs.Overwrite.{overwrite}
 use Rattle.curve.specs.Segments.{verticesIn}
 use Rattle.twists.specs.Chosen.{foundFor}
@@ -11,13 +10,11 @@ use Rattle.seamless_torus.proofs.polyloop3.to_trimesh3_seamless_torus.Goals as g
 
 pub returns : goal.returns
 unfolding foundFor
-returns c = let w = (goal.at.returns c).After-write_rings in
-    let d = w.before.before.before.before in
-    let f = d.before.before.before.before.before.before in
-    let a = f.before.before.before.before.before.before.args in
+returns c =
+    let a = c.args in
     let curve = a.curve.now in
     let N = verticesIn curve in
-    let found = f.find-twist.ensures.0 in
-    let radius = d.drawn-radius.ensures ∙ ap (λ (x : Found). drawnRadius a.r x.finite) found in
-    w.write-rings.ensures
+    let found = c.find_twist-found.ensures.found in
+    let radius = c.drawn_radius.ensures ∙ ap (λ (x : Found). drawnRadius a.r x.finite) found in
+    c.write_rings.ensures
     ∙ (λ j. overwrite 0 (seamlessVertices (found j).twist a.n (radius j) N curve) a.out.now)

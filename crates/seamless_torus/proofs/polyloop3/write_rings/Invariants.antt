@@ -1,28 +1,15 @@
 -- Each turn of the loop writes the ring at one vertex after the one before: the frame there is the
 -- carried one of the table, turned by its share of the twist. Assumes nothing.
-use mathlib.Core.Path.{◌≡◌, refl, sym, ap, ◌∙◌}
+use mathlib.Core.Path.{◌≡◌}
 use mathlib.Core.List.{List}
-use Prim.Native.Nat.{ℕ, ◌+◌, ◌*◌, ◌-◌, ◌≤◌}
-use native.Mathlib.Omega.{arith}
-use borrow.Author.Rules.{rules}
+use Prim.Native.Nat.{ℕ, ◌*◌, ◌-◌, ◌≤◌}
 use lib.Ieee.{Float}
 use lib.ListN.{length}
-use Rattle.laws.specs.Overwrite.{overwrite, overwrite-none}
-use Rattle.laws.specs.Blocks.{blocks, one_more, all-written}
-use Rattle.laws.specs.Products.{next_row, row_within}
-use Rattle.surface.specs.declared.grid.Chain.TheVariants.{Closed}
-use Rattle.curve.specs.Segments.{pointAt, segmentDirection}
-use Rattle.rings.specs.Axes.{axesAt}
-use Rattle.rings.specs.Rings.{ringAt}
-use Rattle.rings.specs.Vertices.{torusVertex}
-use Rattle.rings.specs.declared.ring.Order.{Order}
-use Rattle.ring_writers.proofs.Lengths.{length-ring}
-use Rattle.swept_bodies.specs.Polyloop3.{axesOf}
+use Rattle.laws.specs.Overwrite.{overwrite}
+use Rattle.laws.specs.Blocks.{blocks}
 use Rattle.swept_bodies.specs.declared.swept.Sweep.{Sweep}
-use Rattle.swept_bodies.proofs.Parts.{torus-ring}
-use Rattle.twists.specs.Twists.{twistedFrame}
 use Rattle.twists.specs.declared.twist.Twist.{Twist}
-use Rattle.seamless_torus.specs.Polyloop3.{smoothFrame, seamlessPart}
+use Rattle.seamless_torus.specs.Polyloop3.{seamlessPart}
 use Rattle.seamless_torus.proofs.polyloop3.write_rings.Given as goal
 
 -- the ring at vertex g

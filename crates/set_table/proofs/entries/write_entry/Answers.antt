@@ -4,7 +4,6 @@ use mathlib.Core.List.{List}
 use Prim.Native.Nat.{ℕ, ◌+◌}
 use native.Mathlib.Numerals.{towards_suc}
 use native.Mathlib.Omega.{arith}
-use borrow.Author.Rules.{rules}
 use lib.ListN.{set, length-set}
 use Rattle.laws.specs.Overwrite.{overwrite, stores, one_store}
 use Rattle.set_table.specs.Entries.{words_of, tableWords}

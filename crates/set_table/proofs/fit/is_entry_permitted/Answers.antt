@@ -1,6 +1,5 @@
 -- Each answer is what `entryPermitted` computes to under the test that led there. Assumes nothing.
 use borrow.Author.Tests.{eq-eqb, ne_eqb}
-use borrow.Author.Rules.{rules}
 use Rattle.set_table.specs.Room.{entryPermitted}
 use Rattle.set_table.proofs.fit.is_entry_permitted.Goals as goal
 

@@ -4,7 +4,6 @@ use mathlib.Core.Bool.{false}
 use Prim.Native.Nat.{ℕ, ◌+◌, ◌^◌, ◌<◌}
 use native.Mathlib.Omega.{arith}
 use borrow.Author.Tests.{lt-leb}
-use borrow.Author.Rules.{rules}
 use Rattle.surface.specs.Limits.{fits}
 use Rattle.set_table.proofs.fit.is_sum_permitted.Goals as goal
 

@@ -1,7 +1,6 @@
 -- Each answer is what `headSound` computes to under the tests that led there. Assumes nothing.
 use native.Mathlib.Omega.{arith}
 use borrow.Author.Tests.{le-leb, lt-leb}
-use borrow.Author.Rules.{rules}
 use lib.ListN.{length}
 use Rattle.set_table.specs.Table.{headSound}
 use Rattle.set_table.proofs.table.is_head_sound.Goals as goal

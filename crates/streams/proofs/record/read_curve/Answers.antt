@@ -1,19 +1,78 @@
--- The buffers have room for the longest record; what is then there of it is handed on. Assumes
--- nothing.
-use native.Mathlib.Omega.{arith}
-use borrow.Author.Rules.{rules}
-use lib.ListN.{length-take, length-drop, length-append}
-use Rattle.records.proofs.Lengths.{first_alone}
+use Rattle.std.proofs.Common.{rules, ◌≡◌, ℕ, ◌+◌, ◌-◌, ◌*◌, ◌/◌, ◌≤◌, Bool, List, drop, length-take, length-drop, ◌++◌, ◌∙◌, refl, sym, ap, arith, length, take, take_all, length-take-le, length-append, IfSome}
+use Rattle.std.proofs.KnownBytes.{Consumes-whole}
+use lib.Dec.{leb}
+use borrow.Rule.Slice.PartMut.{put_mid}
+use Rattle.streams.specs.Record.{StopsBefore}
+use Rattle.streams.specs.declared.record.Stop.TheVariants.{Short}
+use Rattle.laws.specs.Overwrite.{placed}
+use Rattle.records.specs.Records.{recordWords}
+use Rattle.little_endian.specs.Words.{words_in}
+use Rattle.streams.proofs.Kept.{front_filled, prepended, prepended_consumes}
+use Rattle.streams.proofs.Records.{read_back, is_whole, is-cut-short}
 use Rattle.streams.proofs.record.read_curve.Goals as goal
 
-pub slice_bounds-read_words-end-in-Full : goal.slice_bounds-read_words-end-in-Full
-slice_bounds-read_words-end-in-Full c = simp (length-take, length-append, length-drop) (omega arith)
+-- the head, and the bytes behind it, which were read to a buffer's part
+-- the head, the bytes behind it, which were read to a part of the buffer, and the words of both
+module _ (count : ℕ) (old more words₀ : List ℕ) (room : 6172 ≡ length old) (space : 1543 ≡ length words₀)
+    (has : 7 ≤ count) (fits : count ≤ 1543) (sized : length more ≡ 4 * count - 28)
+  where
+    head : List ℕ
+    head = take 28 old
 
-pub slice_bounds-record_words-end-in-Full : goal.slice_bounds-record_words-end-in-Full
-slice_bounds-record_words-end-in-Full c = simp length-take (omega arith)
+    head-sized : length (take 28 old) ≡ 28
+    head-sized = length-take-le 28 old (omega (arith, room))
 
-pub returns-else-whole-eq0 : goal.returns-else-whole-eq0
-returns-else-whole-eq0 c =
-    let start = c.before.before.before.before.before.before.before.before.before.before.before.before.before.before.before.before in
-    let alone = first_alone start.args.count _ c.record_words-whole.ensures in
-    (omega arith, alone.0, alone.1)
+    joined : take (4 * count) (put_mid 28 (4 * count - 28) old more) ≡ take 28 old ++ more
+    joined =
+        let all : 4 * count ≡ 28 + length more = omega arith in
+        ap (λ n. take n (put_mid 28 (4 * count - 28) old more)) all
+        ∙ front_filled 28 (4 * count - 28) (length more) old more (omega (arith, room)) (omega arith)
+        ∙ ap (λ l. take 28 old ++ l) (take_all (length more) more (omega arith))
+
+    long : length (take 28 old ++ more) ≡ 4 * count
+    long = omega (arith, length-append (take 28 old) more, head-sized, sized)
+
+    front : {words : List ℕ} {r : Bool}
+        → r ≡ leb (length (take (4 * count) (put_mid 28 (4 * count - 28) old more)) / 4) (length words₀)
+        → words ≡ placed r (words_in (take (4 * count) (put_mid 28 (4 * count - 28) old more))) words₀
+        → take count words ≡ words_in (take 28 old ++ more)
+    front {r = r} is written =
+        read_back count (take 28 old ++ more) words₀ long (omega (arith, space))
+        (is ∙ ap (λ (l : List ℕ). leb (length l / 4) (length words₀)) joined)
+        (written ∙ ap (λ (l : List ℕ). placed r (words_in l) words₀) joined)
+
+pub returns-in-Full-clause-alone : goal.returns-in-Full-clause-alone
+returns-in-Full-clause-alone g c =
+    let old = c.args.bytes.now in
+    let more = c.read_full.new.buf in
+    let a = c.requires in
+    let sized : length more ≡ 4 * c.args.count - 28 = omega (arith, length-take (4 * c.args.count - 28) (drop 28 old), length-drop 28 old) in
+    let words = front c.args.count old more c.args.words.now a.byte_room a.word_room a.has_head a.fits sized
+    c.read_words.ensures.fits c.read_words.ensures.written in
+    let whole = is_whole c.args.count (take 28 old) more (length-take-le 28 old (omega arith)) a.named a.has_head sized in
+    (omega arith, search rules, whole ∙ sym (ap recordWords words))
+
+pub returns-in-Full-clause-bytes : goal.returns-in-Full-clause-bytes
+returns-in-Full-clause-bytes g c =
+    let old = c.args.bytes.now in
+    let more = c.read_full.new.buf in
+    let a = c.requires in
+    let sized : length more ≡ 4 * c.args.count - 28 = omega (arith, length-take (4 * c.args.count - 28) (drop 28 old), length-drop 28 old) in
+    let words = front c.args.count old more c.args.words.now a.byte_room a.word_room a.has_head a.fits sized
+    c.read_words.ensures.fits c.read_words.ensures.written in (
+      take 28 old ++ more,
+      prepended_consumes (take 28 old) _ _ more c.in-Full.ensures.bytes,
+      long c.args.count old more c.args.words.now a.byte_room a.word_room a.has_head a.fits sized,
+      sym words,
+    )
+
+pub returns-in-Ended-clause-bytes : goal.returns-in-Ended-clause-bytes
+returns-in-Ended-clause-bytes g c =
+    let head = take 28 c.args.bytes.now in
+    let buf = c.read_full.new.buf in
+    let told = c.in-Ended.ensures in
+    let few = take c.in-Ended.field-0 buf in
+    let sized : length head ≡ 28 = length-take-le 28 c.args.bytes.now (omega arith) in
+    let short = is-cut-short c.args.count head few sized c.requires.named c.requires.has_head (omega (arith, length-take-le c.in-Ended.field-0 buf (omega arith))) in
+    prepended head _ (StopsBefore Short)
+    (Consumes-whole _ _ few (λ xs. StopsBefore Short (head ++ xs)) told.bytes.0 told.bytes.1 (omega (arith, sized, length-append head few), short))

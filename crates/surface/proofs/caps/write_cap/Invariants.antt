@@ -1,15 +1,11 @@
 -- Each turn of the loop writes one triangle after the last. Assumes nothing.
-use mathlib.Core.Path.{◌≡◌, refl, sym, ◌∙◌}
-use Prim.Native.Nat.{◌+◌, ◌*◌, ◌-◌, ◌≤◌, ◌<◌}
-use native.Mathlib.Omega.{arith}
-use borrow.Author.Rules.{rules}
+use mathlib.Core.Path.{◌≡◌}
+use Prim.Native.Nat.{◌+◌, ◌*◌, ◌-◌, ◌≤◌}
 use lib.ListN.{length}
-use Rattle.laws.specs.Overwrite.{overwrite, overwrite-none}
-use Rattle.laws.specs.Blocks.{blocks, one_more}
-use Rattle.surface.specs.declared.grid.Chain.TheVariants.{Closed}
-use Rattle.surface.proofs.Chains.{after-lt}
-use Rattle.surface.proofs.Flatten.{numbers, blocks-written}
-use Rattle.surface.proofs.Pieces.{cap_at, cap-written, length-capAt}
+use Rattle.laws.specs.Overwrite.{overwrite}
+use Rattle.laws.specs.Blocks.{blocks}
+use Rattle.surface.proofs.Flatten.{numbers}
+use Rattle.surface.proofs.Pieces.{cap_at}
 use Rattle.surface.proofs.caps.write_cap.Given as goal
 
 abbrev pub invariant-loop-i : goal.invariant-loop-i

@@ -5,18 +5,17 @@ use mathlib.Core.List.{List}
 use Prim.Native.Nat.{ℕ, ◌+◌, ◌*◌, ◌^◌, ◌≤◌, ◌<◌}
 use native.Mathlib.Nat.{mul_assoc, mul-le-mul_right}
 use native.Mathlib.Omega.{arith}
-use borrow.Author.Rules.{rules}
 use lib.ListN.{length}
 use Rattle.laws.specs.Overwrite.{overwrite, written_behind}
 use Rattle.laws.specs.Products.{row_within}
-use Rattle.surface.specs.Triangles.{Triangle, flatten}
+use Rattle.surface.specs.Triangles.{flatten}
 use Rattle.surface.specs.Grid.{straightOf, rowTriangles, gridTriangles}
 use Rattle.surface.specs.Whole.{chainOf, ringCount, ringSize}
 use Rattle.surface.specs.declared.grid.Chain.TheVariants.{Open}
 use Rattle.surface.proofs.Chains.{straight-bounds}
 use Rattle.surface.proofs.Flatten.{flatten-append}
 use Rattle.surface.proofs.Pieces.{length-grid}
-use Rattle.surface.proofs.LastRow.{none_left, one_left}
+use Rattle.surface.proofs.LastRow.{one_left}
 use Rattle.surface.proofs.grid.write_grid.Goals as goal
 use Rattle.surface.proofs.grid.write_grid.Goals.{After-ring_size, After-straight-ahead}
 
@@ -52,29 +51,11 @@ last c less = let a = c.args in
     let s = a.s in
     (omega (arith, row_within c.straight-ahead.result s.rows s.columns less), (room c).2 (omega arith))
 
-pub write_rows-requires : goal.write_rows-requires
-write_rows-requires c = let f = room (goal.at.write_rows-requires c).After-straight-ahead in record { numbers = λ h. f.2 (omega arith); within = omega arith }
-
-pub overflow_mul-place : goal.overflow_mul-place
-overflow_mul-place c = omega (arith, room (goal.at.overflow_mul-place c).After-straight-ahead)
-
-pub overflow_mul-place-then-ahead-rows : goal.overflow_mul-place-then-ahead-rows
-overflow_mul-place-then-ahead-rows c = omega (arith, room (goal.at.overflow_mul-place-then-ahead-rows c).After-straight-ahead)
-
-pub overflow_add-place : goal.overflow_add-place
-overflow_add-place c = omega (arith, room (goal.at.overflow_add-place c).After-straight-ahead)
-
 -- how far the last ring lies past the first
 to_last : (c : After-ring_size) → let s = c.args.s in
     let k = c.straight-ahead.result in
     k * c.ring_size.result ≡ k * ringSize s
 to_last c = let k = c.straight-ahead.result in ap (λ (w : ℕ). k * w) c.ring_size.ensures
-
-pub overflow_mul-low : goal.overflow_mul-low
-overflow_mul-low c = let f = last (goal.at.overflow_mul-low c).After-straight-ahead (omega arith) in omega (arith, to_last (goal.at.overflow_mul-low c).After-ring_size)
-
-pub overflow_add-low : goal.overflow_add-low
-overflow_add-low c = let f = last (goal.at.overflow_add-low c).After-straight-ahead (omega arith) in omega (arith, to_last (goal.at.overflow_add-low c).After-ring_size)
 
 pub write_row-requires : goal.write_row-requires
 write_row-requires c =
@@ -83,27 +64,20 @@ write_row-requires c =
     record { low-numbers = omega arith; high-numbers = omega arith; within = omega arith }
 
 pub returns-then-ahead-rows : goal.returns-then-ahead-rows
-returns-then-ahead-rows c = let r = (goal.at.returns-then-ahead-rows c).After-ring_size in
-    let m = r.before.before.before.before.before.before in
-    let a = m.before.before.before.before.before.args in
+returns-then-ahead-rows c = let at_ring = (goal.at.returns-then-ahead-rows c).After-ring_size in
+    let a = c.args in
     let s = a.s in
-    let k = m.straight.result in
+    let k = c.straight-ahead.result in
     let rows = gridTriangles s.split Open k s.round s.columns a.base in
     let row = rowTriangles s.split s.round s.columns (a.base + k * ringSize s) a.base in
-    let first = r.before.before.before.before.write-rows in
+    let first = c.write_rows in
     let place : a.at + k * s.columns * 6 ≡ a.at + k * (s.columns * 6) = ap (λ (p : ℕ). a.at + p) (mul_assoc k s.columns 6) in
     written_behind a.at (flatten rows) (flatten row) a.out.now first.ensures
     (length-grid s.split s.round s.columns Open k a.base)
     (c.write_row.ensures
-    ∙ (λ i. overwrite (place i) (flatten (rowTriangles s.split s.round s.columns (a.base + to_last r i) a.base)) first.new.0))
+    ∙ (λ i. overwrite (place i) (flatten (rowTriangles s.split s.round s.columns (a.base + to_last at_ring i) a.base))
+    first.new.out))
     ∙ ap (λ (l : List ℕ). overwrite a.at l a.out.now)
     (sym (flatten-append rows row)
-    ∙ ap flatten (one_left s.split s.round s.columns (chainOf s.ending) s.rows a.base k (ahead m) (omega arith)))
-
-pub returns-else-ahead-rows : goal.returns-else-ahead-rows
-returns-else-ahead-rows c = let m = (goal.at.returns-else-ahead-rows c).After-straight-ahead in
-    let a = m.before.before.before.before.before.args in
-    let s = a.s in
-    c.write_rows.ensures
-    ∙ ap (λ (ts : List Triangle). overwrite a.at (flatten ts) a.out.now)
-    (none_left s.split s.round s.columns (chainOf s.ending) s.rows a.base m.straight.result (ahead m) (omega arith))
+    ∙ ap flatten (one_left s.split s.round s.columns (chainOf s.ending) s.rows a.base k
+    (ahead (goal.at.returns-then-ahead-rows c).After-straight-ahead) (omega arith)))

@@ -1,7 +1,6 @@
 -- The two tests are those of `fits`. Assumes nothing.
 use Prim.Native.Nat.{◌^◌, ◌≤◌, ◌<◌}
 use native.Mathlib.Omega.{arith}
-use borrow.Author.Rules.{rules}
 use borrow.Author.Tests.{le-leb, lt-leb}
 use Rattle.surface.specs.Limits.{fits}
 use Rattle.surface.proofs.limits.fits.Goals as goal

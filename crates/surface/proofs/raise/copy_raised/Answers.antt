@@ -1,7 +1,7 @@
 -- Each turn of the loop stores one raised number after the last. Assumes nothing.
 use mathlib.Core.Path.{◌≡◌, refl, sym, ap, ◌∙◌}
 use mathlib.Core.List.{List, [], ◌∷◌}
-use Prim.Native.Nat.{ℕ, ◌+◌, ◌-◌, ◌^◌, ◌≤◌, ◌<◌}
+use Prim.Native.Nat.{ℕ, ◌+◌, ◌-◌, ◌^◌, ◌<◌}
 use native.Mathlib.Omega.{arith}
 use lib.ListN.{length, get_or, length-set, length-map}
 use Rattle.laws.specs.Places.{get_d_map}
@@ -39,38 +39,11 @@ fits c = let a = c.args in
     let m : k < length (raised a.rise s) = omega (arith, length-map s (λ n. a.rise + n)) in
     omega (arith, get_d_map (λ n. a.rise + n) s k 0 0 h, below_at (2 ^ 28) (raised a.rise s) k p.numbers m)
 
-pub overflow_sub-from : goal.overflow_sub-from
-overflow_sub-from c = omega arith
-
 pub loop-k-init : goal.loop-k-init
 loop-k-init c = (sym (overwrite-none _ _), omega arith, refl)
 
-pub overflow_add-out : goal.overflow_add-out
-overflow_add-out c = omega arith
-
-pub offset_bounds-out-from : goal.offset_bounds-out-from
-offset_bounds-out-from c = omega arith
-
-pub bounds-out-from : goal.bounds-out-from
-bounds-out-from c = omega arith
-
 pub overflow_add-out-in-loop-k : goal.overflow_add-out-in-loop-k
 overflow_add-out-in-loop-k c = omega (arith, read (goal.at.overflow_add-out-in-loop-k c).In-loop-k, fits (goal.at.overflow_add-out-in-loop-k c).In-loop-k)
-
-pub overflow_add-out-in-loop-k-2 : goal.overflow_add-out-in-loop-k-2
-overflow_add-out-in-loop-k-2 c = omega arith
-
-pub offset_bounds-out-at : goal.offset_bounds-out-at
-offset_bounds-out-at c = omega arith
-
-pub bounds-out-at : goal.bounds-out-at
-bounds-out-at c = omega arith
-
-pub overflow_add-k : goal.overflow_add-k
-overflow_add-k c = omega arith
-
-pub loop-k-smaller : goal.loop-k-smaller
-loop-k-smaller c = omega arith
 
 pub loop-k-preserved : goal.loop-k-preserved
 loop-k-preserved c = let a = c.args in
@@ -82,9 +55,6 @@ loop-k-preserved c = let a = c.args in
       omega arith,
       simp length-set l.invariant.2,
     )
-
-pub shape_of-out : goal.shape_of-out
-shape_of-out c = c.loop-k.invariant.2
 
 pub returns : goal.returns
 returns c = let a = c.args in

@@ -1,16 +1,11 @@
 -- Each turn of the loop stores one raised number after the last. Assumes nothing.
-use mathlib.Core.Path.{◌≡◌, refl, sym, ap, ◌∙◌}
+use mathlib.Core.Path.{◌≡◌}
 use mathlib.Core.List.{List, [], ◌∷◌}
-use Prim.Native.Nat.{ℕ, ◌+◌, ◌-◌, ◌^◌, ◌≤◌, ◌<◌}
-use native.Mathlib.Omega.{arith}
-use lib.ListN.{length, get_or, length-set, length-map}
-use Rattle.laws.specs.Places.{get_d_map}
-use Rattle.laws.specs.Overwrite.{overwrite, overwrite-none, one_store}
-use Rattle.laws.specs.Blocks.{blocks, blocks-map, one_more, all-written}
-use Rattle.laws.specs.Parts.{part, length_part}
-use Rattle.surface.specs.Raise.{raised}
-use Rattle.surface.proofs.Below.{below_at}
-use Rattle.surface.proofs.Copies.{read-before}
+use Prim.Native.Nat.{ℕ, ◌+◌, ◌-◌, ◌≤◌}
+use lib.ListN.{length, get_or}
+use Rattle.laws.specs.Overwrite.{overwrite}
+use Rattle.laws.specs.Blocks.{blocks}
+use Rattle.laws.specs.Parts.{part}
 use Rattle.surface.proofs.raise.copy_raised.Given as goal
 
 -- number i, raised

@@ -1,23 +1,22 @@
 -- Each turn of the loop writes copies of the last copies after them all. Assumes nothing.
 use mathlib.Core.Path.{◌≡◌, refl, sym, ap, ◌∙◌, subst}
 use mathlib.Core.List.{List}
-use Prim.Native.Nat.{ℕ, ◌+◌, ◌-◌, ◌*◌, ◌^◌, ◌≤◌, ◌<◌}
+use Prim.Native.Nat.{ℕ, ◌+◌, ◌-◌, ◌*◌, ◌^◌, ◌≤◌}
 use native.Mathlib.Nat.{mul-le-mul_right}
 use native.Mathlib.Omega.{arith}
-use borrow.Author.Rules.{rules}
 use lib.ListN.{length}
 use Rattle.laws.specs.Overwrite.{overwrite}
-use Rattle.laws.specs.Blocks.{blocks, all-written}
+use Rattle.laws.specs.Blocks.{blocks}
 use Rattle.laws.specs.Parts.{part, length_part}
-use Rattle.surface.specs.Raise.{raised, copy_of, Below}
+use Rattle.surface.specs.Raise.{raised, copy_of, Below, RepeatFits}
 use Rattle.surface.proofs.Below.{below-blocks}
 use Rattle.surface.proofs.Copies.{part-kept, copy-none, next-copies, copies-after}
 use Rattle.surface.proofs.raise.repeat_raised.Goals as goal
-use Rattle.surface.proofs.raise.repeat_raised.Goals.{After-at_once-count, Start}
+use Rattle.surface.proofs.raise.repeat_raised.Goals.{After-at_once-count}
 
 -- the first copy has its room
-first : (c : Start) → let a = c.args in (a.at + a.size ≤ length a.out.now)
-first c = let a = c.args in omega (arith, mul-le-mul_right a.size c.requires.some)
+first : (at size times rise : ℕ) (l : List ℕ) → RepeatFits at size times rise l → at + size ≤ length l
+first at size times rise l fits = omega (arith, mul-le-mul_right size fits.some)
 
 -- and so have the copies of a turn, whose rise is within bounds
 room : (c : After-at_once-count) → let a = c.args in
@@ -42,32 +41,20 @@ next c = let a = c.args in
     let r = room c in
     let e : l.done - count + count ≡ l.done = omega arith in
     next-copies a.at a.size a.rise (part a.at a.size t₀) t₀
-    (length_part a.at a.size t₀ (first c.before.before.before.before))
+    (length_part a.at a.size t₀ (first a.at a.size a.times a.rise t₀ c.requires))
     (l.done - count) count e l.invariant.0 l.invariant.1 (omega arith)
-
-pub overflow_add-place : goal.overflow_add-place
-overflow_add-place c = omega (arith, first (goal.at.overflow_add-place c).Start)
 
 pub loop-done-init : goal.loop-done-init
 loop-done-init c = let a = c.args in
     let t₀ = a.out.now in
     let s = part a.at a.size t₀ in
     let p = c.requires in (
-      part-kept a.at a.size t₀ (first (goal.at.loop-done-init c).Start) ∙ ap (λ (r : List ℕ). overwrite a.at r t₀) (sym (copy-none a.rise s)),
+      part-kept a.at a.size t₀ (first a.at a.size a.times a.rise t₀ c.requires) ∙ ap (λ (r : List ℕ). overwrite a.at r t₀) (sym (copy-none a.rise s)),
       omega arith,
       omega arith,
       omega arith,
       refl,
     )
-
-pub at_once-count-requires : goal.at_once-count-requires
-at_once-count-requires c = (omega arith, omega arith)
-
-pub overflow_mul-length : goal.overflow_mul-length
-overflow_mul-length c = omega (arith, room (goal.at.overflow_mul-length c).After-at_once-count)
-
-pub overflow_mul-count : goal.overflow_mul-count
-overflow_mul-count c = omega (arith, room (goal.at.overflow_mul-count c).After-at_once-count)
 
 pub copy_raised-requires : goal.copy_raised-requires
 copy_raised-requires c = let a = c.args in
@@ -82,36 +69,17 @@ copy_raised-requires c = let a = c.args in
           (below-blocks (2 ^ 28) count (λ k. f (l.done + k)) (λ k h. c.requires.numbers (l.done + k) (omega arith)));
     }
 
-pub overflow_add-place-in-loop-done : goal.overflow_add-place-in-loop-done
-overflow_add-place-in-loop-done c = omega (arith, room (goal.at.overflow_add-place-in-loop-done c).After-at_once-count)
-
-pub overflow_add-done : goal.overflow_add-done
-overflow_add-done c = omega arith
-
-pub loop-done-smaller : goal.loop-done-smaller
-loop-done-smaller c = omega arith
-
 pub loop-done-preserved : goal.loop-done-preserved
 loop-done-preserved c = let m = (goal.at.loop-done-preserved c).After-at_once-count in
-    let a = m.before.before.before.before.args in
-    let l = m.before.before.loop in
+    let a = c.args in
+    let l = c.loop-done in
     let t₀ = a.out.now in
     let copied = c.copy_raised in (
       copies-after a.at a.size a.rise (part a.at a.size t₀) t₀
-          (length_part a.at a.size t₀ (first m.before.before.before.before))
-          l.done m.at_once.result l.invariant.0 l.invariant.1 copied.ensures (next m),
+          (length_part a.at a.size t₀ (first a.at a.size a.times a.rise t₀ c.requires))
+          l.done c.at_once-count.result l.invariant.0 l.invariant.1 copied.ensures (next m),
       omega arith,
       omega arith,
       omega arith,
-      copied.auto.0 ∙ l.invariant.4,
+      copied.auto.out ∙ l.invariant.4,
     )
-
-pub shape_of-out : goal.shape_of-out
-shape_of-out c = c.loop-done.invariant.4
-
-pub returns : goal.returns
-returns c = let a = c.args in
-    let l = c.loop-done in
-    let t₀ = a.out.now in
-    let end : l.done ≡ a.times = omega arith in
-    all-written a.at (copy_of a.rise (part a.at a.size t₀)) t₀ l.invariant.0 end

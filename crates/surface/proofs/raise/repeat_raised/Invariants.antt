@@ -1,17 +1,11 @@
 -- Each turn of the loop writes copies of the last copies after them all. Assumes nothing.
-use mathlib.Core.Path.{◌≡◌, refl, sym, ap, ◌∙◌, subst}
-use mathlib.Core.List.{List}
-use Prim.Native.Nat.{ℕ, ◌+◌, ◌-◌, ◌*◌, ◌^◌, ◌≤◌, ◌<◌}
-use native.Mathlib.Nat.{mul-le-mul_right}
-use native.Mathlib.Omega.{arith}
-use borrow.Author.Rules.{rules}
+use mathlib.Core.Path.{◌≡◌}
+use Prim.Native.Nat.{◌+◌, ◌-◌, ◌*◌, ◌≤◌, ◌<◌}
 use lib.ListN.{length}
 use Rattle.laws.specs.Overwrite.{overwrite}
-use Rattle.laws.specs.Blocks.{blocks, all-written}
-use Rattle.laws.specs.Parts.{part, length_part}
-use Rattle.surface.specs.Raise.{raised, copy_of, Below}
-use Rattle.surface.proofs.Below.{below-blocks}
-use Rattle.surface.proofs.Copies.{part-kept, copy-none, next-copies, copies-after}
+use Rattle.laws.specs.Blocks.{blocks}
+use Rattle.laws.specs.Parts.{part}
+use Rattle.surface.specs.Raise.{copy_of}
 use Rattle.surface.proofs.raise.repeat_raised.Given as goal
 
 abbrev pub invariant-loop-done : goal.invariant-loop-done

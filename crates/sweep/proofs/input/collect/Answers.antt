@@ -1,17 +1,16 @@
 -- The cleared set is what the records are added to. Assumes nothing.
-use mathlib.Core.Path.{subst}
-use mathlib.Core.List.{List}
-use Prim.Native.Nat.{ℕ}
-use borrow.Author.Rules.{rules}
-use Rattle.set_table.specs.Buffers.{buffers}
-use Rattle.sweep.specs.Input.{AfterRecords}
+use Rattle.std.proofs.Common.{List, ℕ, subst, IfSome}
+use Rattle.ledger.specs.Calls.{clearedSet}
+use Rattle.set_table.specs.Buffers.{Buffers, buffers}
+use Rattle.sweep.specs.Known.{AddedFrom}
+use Rattle.sweep.proofs.Behind.{all-read}
 use Rattle.sweep.proofs.input.collect.Goals as goal
 
-pub returns : goal.returns
-returns c =
-    let added = (goal.at.returns c).After-add_records in
-    let cleared = added.before.before.before.before.before.before in
-    let a = cleared.before.before.before.before.before.args in
-    let after = buffers added.add-records.new.0 added.add-records.new.1.0 added.add-records.new.1.1.0 in
-    subst (λ (T : List ℕ). AfterRecords added.add-records.result (buffers T a.vertices.now a.triangles.now) after)
-    cleared.clear.ensures.1 added.add-records.ensures
+pub returns-clause-all : goal.returns-clause-all
+returns-clause-all g c =
+    let a = c.args in
+    let r = c.add_records in
+    let after = buffers r.new.table r.new.vertices r.new.triangles in
+    let known = g.R.Read.remaining a.input.now in
+    let front = subst (λ (T : List ℕ). IfSome known (λ bytes. AddedFrom bytes r.result.stop r.result.count (buffers T a.vertices.now a.triangles.now) after)) c.clear.ensures.table_after r.ensures.front in
+    all-read known r.result.stop r.result.count (clearedSet (buffers a.table.now a.vertices.now a.triangles.now)) after front

@@ -1,24 +1,15 @@
 -- The file is no longer than its buffer, so that its bytes are all there. Assumes nothing.
-use native.Mathlib.Omega.{arith}
-use borrow.Author.Rules.{rules}
-use lib.ListN.{length-take}
+use Rattle.std.proofs.Common.{arith}
 use Rattle.set_table.specs.Buffers.{buffers}
 use Rattle.sweep.proofs.Whole.{Sized, all-bytes}
 use Rattle.sweep.proofs.output.write_through.Goals as goal
 
-pub slice_bounds-write_words-end-2 : goal.slice_bounds-write_words-end-2
-slice_bounds-write_words-end-2 c = simp length-take (omega arith)
-
-pub slice_bounds-write_bytes-end-2 : goal.slice_bounds-write_bytes-end-2
-slice_bounds-write_bytes-end-2 c = simp length-take (omega arith)
-
 pub write_bytes-requires : goal.write_bytes-requires
-write_bytes-requires c =
-    let wrote = c.write_words in
-    let start = (goal.at.write_bytes-requires c).After-slice_known-2-1 in
-    let filled = start.fill-file in
-    let a = start.before.before.before.before.before.before.before.args in
+write_bytes-requires g c =
+    let a = c.args in
+    let r = c.requires in
     let s = buffers a.table.now a.vertices.now a.triangles.now in
-    let sized : Sized s = record { table = omega arith; vertices = omega arith; triangles = omega arith } in
-    all-bytes s a.words.now a.bytes.now sized (omega arith) (omega arith)
-    filled.ensures.0 filled.ensures.1 wrote.ensures.0 wrote.ensures.1
+    let sized : Sized s = record { table = r.table_room; vertices = r.vertex_room; triangles = r.triangle_room } in
+    let filled = c.fill_file-count.ensures in
+    let wrote = c.write_words.ensures in
+    all-bytes s a.words.now a.bytes.now sized r.word_room r.byte_room filled.count filled.written wrote.fits wrote.written

@@ -1,20 +1,14 @@
 -- Each turn of the loop carries the frame one segment on and writes one pair after the one before.
 -- Assumes nothing.
-use mathlib.Core.Path.{◌≡◌, refl, sym, ap, ◌∙◌}
+use mathlib.Core.Path.{◌≡◌}
 use mathlib.Core.List.{List}
-use Prim.Native.Nat.{ℕ, ◌+◌, ◌*◌, ◌-◌, ◌/◌, ◌≤◌}
-use native.Mathlib.Omega.{arith}
-use borrow.Author.Rules.{rules}
+use Prim.Native.Nat.{ℕ, ◌+◌, ◌*◌, ◌-◌, ◌≤◌}
 use lib.Ieee.{Float}
 use lib.ListN.{length}
-use Rattle.laws.specs.Overwrite.{overwrite, overwrite-none}
-use Rattle.laws.specs.Blocks.{blocks, one_more, all-written, length-blocks, ends-written}
-use Rattle.curve.specs.Segments.{verticesIn, pointAt}
-use Rattle.curve.specs.Framex.{carriedOn}
-use Rattle.curve.specs.declared.framex.Carried.{Carried}
+use Rattle.laws.specs.Overwrite.{overwrite}
+use Rattle.laws.specs.Blocks.{blocks}
 use Rattle.swept_bodies.specs.Tables.{carriedIn}
-use Rattle.swept_bodies.specs.Polyline3.{ribbonPair, ribbonPart}
-use Rattle.swept_bodies.proofs.Axes.{carried_on, frame-within, frame-last}
+use Rattle.swept_bodies.specs.Polyline3.{ribbonPart}
 use Rattle.swept_bodies.proofs.polyline3.to_trimesh3_ribbon.Given as goal
 
 -- the pair at the vertex after vertex k

@@ -26,7 +26,6 @@ use Rattle.swept_bodies.specs.Polyline3.{axesOf}
 use Rattle.swept_bodies.specs.Capsule.{capsulePart}
 use Rattle.swept_bodies.proofs.Axes.{axes-first, axes-last}
 use Rattle.swept_bodies.proofs.Parts.{tube-inner, parts-inner, part-last}
-use borrow.Author.Rules.{rules}
 use Rattle.swept_bodies.proofs.polyline3.write_capsule.Goals as goal
 use Rattle.swept_bodies.proofs.polyline3.write_capsule.Goals.{After-first-start, After-write_inner-end, Start}
 
@@ -43,124 +42,114 @@ place s = bottom s + (s.args.sweep.segments - 1) * size s
 -- the three writes are within bounds
 room : (s : Start) → (size s ≤ 768) × (s.args.longitudes * size s ≤ 196608)
     × (place s + bottom s ≤ length s.args.out.now)
-room s = let L = s.args.longitudes in
+room s =
+    let L = s.args.longitudes in
     let m = s.args.sweep.segments in
-    let p = s.requires.1 in
-    let segment = s.requires.0.segment in
-    let few : size s ≤ 768 = omega (arith, p.ring) in
+    let fits = s.requires.capsule_fits in
+    let segment = s.requires.open_sweep.segment in
+    let few : size s ≤ 768 = omega (arith, fits.ring) in
     let e : 2 * L + m - 1 ≡ L + (m - 1) + L = omega arith in
-    omega (arith, mul-le-mul_right (size s) p.cap, few, ap (λ (k : ℕ). k * size s) e, p.within)
+    omega (arith, mul-le-mul_right (size s) fits.cap, few, ap (λ (k : ℕ). k * size s) e, fits.within)
 
 -- what is carried begins on the first segment
-start : (f : After-first-start) → f.first.result ≡ carriedIn
-    f.before.before.before.before.before.before.before.before.args.directions.now 0
-start f = f.first.ensures ∙ ap carriedOn f.before.point.ensures
+start : (f : After-first-start) → f.first-start.result ≡ carriedIn f.args.directions.now 0
+start f = f.first-start.ensures ∙ ap carriedOn f.point.ensures
 
 pub overflow_mul-size : goal.overflow_mul-size
-overflow_mul-size c = let s = (goal.at.overflow_mul-size c).Start in omega (arith, room s)
+overflow_mul-size c = omega (arith, room (goal.at.overflow_mul-size c).Start)
 
 pub overflow_mul-cap : goal.overflow_mul-cap
-overflow_mul-cap c = let s = (goal.at.overflow_mul-cap c).Start in omega (arith, room s)
+overflow_mul-cap c = omega (arith, room (goal.at.overflow_mul-cap c).Start)
 
 pub overflow_add-cap : goal.overflow_add-cap
-overflow_add-cap c = let s = (goal.at.overflow_add-cap c).Start in omega (arith, room s)
+overflow_add-cap c = omega (arith, room (goal.at.overflow_add-cap c).Start)
 
-pub point-requires : goal.point-requires
-point-requires c = let s = (goal.at.point-requires c).Start in
-    omega (arith, s.requires.0.segment, s.requires.0.table.room)
-
-pub write_bottom-requires : goal.write_bottom-requires
-write_bottom-requires c = let s = (goal.at.write_bottom-requires c).Start in (omega (arith, room s), s.pre.0.turned)
+pub write_bottom-requires-clause-room : goal.write_bottom-requires-clause-room
+write_bottom-requires-clause-room c = omega (arith, room (goal.at.write_bottom-requires-clause-room c).Start)
 
 pub offset_bounds-out-cap : goal.offset_bounds-out-cap
-offset_bounds-out-cap c = let s = (goal.at.offset_bounds-out-cap c).Start in omega (arith, room s)
+offset_bounds-out-cap c = omega (arith, room (goal.at.offset_bounds-out-cap c).Start)
 
 pub slice_bounds-inner-count : goal.slice_bounds-inner-count
-slice_bounds-inner-count c = let s = (goal.at.slice_bounds-inner-count c).Start in omega (arith, room s, c.write_bottom.auto.0)
+slice_bounds-inner-count c =
+    omega (arith, room (goal.at.slice_bounds-inner-count c).Start, c.write_bottom.auto.out)
 
-pub write_inner-end-requires : goal.write_inner-end-requires
-write_inner-end-requires c = let w = (goal.at.write_inner-end-requires c).After-write_bottom in
-    let f = w.before.before.before in
-    let s = f.before.before.before.before.before.before.before.before in
-    let has = s.requires.0 in (
-      (has.segment, start f),
-      (
-        (has.table.room, has.framez.room),
-        (
-          omega (arith, room s, length_rest (bottom s) w.write-bottom.new.0, w.write-bottom.auto.0),
-          has.turned,
-        ),
-      ),
-    )
+pub write_inner-end-requires-clause-started : goal.write_inner-end-requires-clause-started
+write_inner-end-requires-clause-started c =
+    start (goal.at.write_inner-end-requires-clause-started c).After-first-start
+
+pub write_inner-end-requires-clause-room : goal.write_inner-end-requires-clause-room
+write_inner-end-requires-clause-room c =
+    let s = (goal.at.write_inner-end-requires-clause-room c).Start in
+    omega (arith, room s, length_rest (bottom s) c.write_bottom.new.out, c.write_bottom.auto.out)
 
 -- the inner rings, written to the part that was lent
-abbrev rings : Start → List Float
-rings s = innerRings s.args.sweep s.args.curve.now s.args.directions.now s.args.ez.now
+abbrev rings : After-write_inner-end → List Float
+rings e = innerRings e.args.sweep e.args.curve.now e.args.directions.now e.args.ez.now
+
+abbrev lent : After-write_inner-end → ℕ
+lent e = 3 + e.args.longitudes * (e.args.sweep.divisions * 3)
 
 abbrev after : After-write_inner-end → List Float
-after e = let w = e.before.before.before.before.write-bottom.new.0 in
-    let s = e.before.before.before.before.before.before.before.before.before.before.before.before.before.before.before in
-    put_mid (bottom s) (length w - bottom s) w e.write-inner.new.0
+after e =
+    let whole = e.write_bottom.new.out in
+    put_mid (lent e) (length whole - lent e) whole e.write_inner-end.new.out
 
-inner : (e : After-write_inner-end) → after e ≡ overwrite
-    (bottom e.before.before.before.before.before.before.before.before.before.before.before.before.before.before.before) (rings e.before.before.before.before.before.before.before.before.before.before.before.before.before.before.before) e.before.before.before.before.write-bottom.new.0
-inner e = let s = e.before.before.before.before.before.before.before.before.before.before.before.before.before.before.before in lent-from (bottom s) (rings s)
-    e.before.before.before.before.write-bottom.new.0 e.write-inner.ensures.1
+inner : (e : After-write_inner-end) → after e ≡ overwrite (lent e) (rings e) e.write_bottom.new.out
+inner e = lent-from (lent e) (rings e) e.write_bottom.new.out e.write_inner-end.ensures.written
 
-same : (e : After-write_inner-end) → length (after e) ≡ length
-    e.before.before.before.before.before.before.before.before.before.before.before.before.before.before.before.args.out.now
-same e = let s = e.before.before.before.before.before.before.before.before.before.before.before.before.before.before.before in
-    let w = e.before.before.before.before in
-    ap length (inner e) ∙ length-overwrite (bottom s) (rings s) w.write-bottom.new.0 ∙ w.write-bottom.auto.0
-
-pub overflow_sub-top : goal.overflow_sub-top
-overflow_sub-top c = let s = (goal.at.overflow_sub-top c).Start in omega (arith, s.pre.0.segment)
+same : (e : After-write_inner-end) → length (after e) ≡ length e.args.out.now
+same e =
+    ap length (inner e) ∙ length-overwrite (lent e) (rings e) e.write_bottom.new.out ∙ e.write_bottom.auto.out
 
 pub overflow_mul-top : goal.overflow_mul-top
-overflow_mul-top c = let s = (goal.at.overflow_mul-top c).Start in omega (arith, room s)
+overflow_mul-top c = omega (arith, room (goal.at.overflow_mul-top c).Start)
 
 pub overflow_add-top : goal.overflow_add-top
-overflow_add-top c = let s = (goal.at.overflow_add-top c).Start in omega (arith, room s)
+overflow_add-top c = omega (arith, room (goal.at.overflow_add-top c).Start)
 
 pub offset_bounds-out-cap-2 : goal.offset_bounds-out-cap-2
-offset_bounds-out-cap-2 c = let s = (goal.at.offset_bounds-out-cap-2 c).Start in omega (arith, room s)
+offset_bounds-out-cap-2 c = omega (arith, room (goal.at.offset_bounds-out-cap-2 c).Start)
 
 pub slice_bounds-top-count : goal.slice_bounds-top-count
-slice_bounds-top-count c = let e = (goal.at.slice_bounds-top-count c).After-write_inner-end in
-    let s = e.before.before.before.before.before.before.before.before.before.before.before.before.before.before.before in
-    omega (arith, room s, same e)
+slice_bounds-top-count c =
+    let at = goal.at.slice_bounds-top-count c in
+    omega (arith, room at.Start, same at.After-write_inner-end)
 
-pub write_top-requires : goal.write_top-requires
-write_top-requires c = let e = (goal.at.write_top-requires c).After-write_inner-end in
-    let s = e.before.before.before.before.before.before.before.before.before.before.before.before.before.before.before in
-    (omega (arith, room s, length_rest (place s) (after e), same e), s.pre.0.turned)
+pub slice_bounds-top-start : goal.slice_bounds-top-start
+slice_bounds-top-start c =
+    let at = goal.at.slice_bounds-top-start c in
+    omega (arith, room at.Start, same at.After-write_inner-end)
+
+pub write_top-requires-clause-room : goal.write_top-requires-clause-room
+write_top-requires-clause-room c =
+    let s = (goal.at.write_top-requires-clause-room c).Start in
+    let e = (goal.at.write_top-requires-clause-room c).After-write_inner-end in
+    omega (arith, room s, length_rest (place s) (after e), same e)
 
 pub returns : goal.returns
-returns c = let t = (goal.at.returns c).After-write_top in
-    let y = t.before.before in
-    let e = y.before.before.before in
-    let w = e.before.before.before.before in
-    let x = w.before in
-    let f = x.before.before in
-    let s = f.before.before.before.before.before.before.before.before in
-    let a = s.args in
+returns c =
+    let s = (goal.at.returns c).Start in
+    let e = (goal.at.returns c).After-write_inner-end in
+    let a = c.args in
     let n = a.sweep.divisions in
     let m = a.sweep.segments in
     let r = a.sweep.radius in
     let L = a.longitudes in
     let curve = a.curve.now in
-    let has = s.requires.0 in
-    let before = w.write-bottom.new.0 in
-    let first = x.axes-on.ensures ∙ ap (λ (b : Carried). axesAt (vertexOf curve 0) b.frame b.direction)
-    (start f) ∙ axes-first m curve has.table has.segment in
-    let last = y.axes-on2.ensures ∙ ap (λ (b : Carried). axesAt (vertexOf curve m) b.frame b.direction)
-    e.write-inner.ensures.0
+    let has = c.requires.open_sweep in
+    let before = c.write_bottom.new.out in
+    let on-last = c.axes_on-last in
+    let first = c.axes_on.ensures ∙ ap (λ (b : Carried). axesAt (vertexOf curve 0) b.frame b.direction)
+    (start (goal.at.returns c).After-first-start) ∙ axes-first m curve has.table has.segment in
+    let last = on-last.ensures ∙ ap (λ (b : Carried). axesAt (vertexOf curve m) b.frame b.direction)
+    c.write_inner-end.ensures.carried
     ∙ axes-last m curve has.table has.segment in
     ends-written m (bottom s) ((m - 1) * size s) (capsulePart n L r m curve) a.out.now has.segment
     (length-end Bottom (axesOf m curve 0) r L n)
     (ap length (parts-inner n L r m curve) ∙ length-rings (λ k. tubeVertex (axesOf m curve (k + 1)) r) (m - 1) n)
-    w.write-bottom.ensures (ap (λ (b : Axes). endVertices Bottom b r L n) first)
+    c.write_bottom.ensures (ap (λ (b : Axes). endVertices Bottom b r L n) first)
     (inner e ∙ ap (λ (v : List Float). overwrite (bottom s) v before)
     (tube-inner a.sweep curve has ∙ sym (parts-inner n L r m curve)))
-    (lent-from (place s) (endVertices Top y.axes-on2.result r L n) (after e) t.write_top.ensures) refl
+    (lent-from (place s) (endVertices Top on-last.result r L n) (after e) c.write_top.ensures) refl
     (ap (λ (b : Axes). endVertices Top b r L n) last ∙ sym (part-last n L r m curve has.segment))

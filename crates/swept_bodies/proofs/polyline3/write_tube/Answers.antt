@@ -1,6 +1,6 @@
 -- The first ring, the inner ones and the last one, one after the other, are the rings of the
 -- definition. Assumes nothing.
-use mathlib.Core.Path.{◌≡◌, sym, ap, ◌∙◌}
+use mathlib.Core.Path.{◌≡◌, ap, ◌∙◌}
 use mathlib.Core.List.{List}
 use Prim.Native.Nat.{ℕ, ◌+◌, ◌-◌, ◌*◌, ◌≤◌}
 use native.Mathlib.Omega.{arith}
@@ -10,7 +10,7 @@ use borrow.Rule.Slice.PartMut.{put_mid}
 use Rattle.laws.specs.Overwrite.{overwrite, length-overwrite}
 use Rattle.laws.specs.Blocks.{ends-written}
 use Rattle.laws.specs.Lent.{length_rest, lent-from}
-use Rattle.laws.specs.Products.{next_row, row_within}
+use Rattle.laws.specs.Products.{next_row}
 use Rattle.curve.specs.Segments.{vertexOf}
 use Rattle.curve.specs.Framex.{carriedOn}
 use Rattle.curve.specs.declared.framex.Carried.{Carried}
@@ -24,7 +24,6 @@ use Rattle.swept_bodies.specs.Swept.{innerRings}
 use Rattle.swept_bodies.specs.Polyline3.{axesOf, tubeRing}
 use Rattle.swept_bodies.proofs.Axes.{axes-first, axes-last}
 use Rattle.swept_bodies.proofs.Parts.{tube-ring, tube-inner}
-use borrow.Author.Rules.{rules}
 use Rattle.swept_bodies.proofs.polyline3.write_tube.Goals as goal
 use Rattle.swept_bodies.proofs.polyline3.write_tube.Goals.{After-first-start, After-write_inner-end, Start}
 
@@ -33,109 +32,98 @@ abbrev size : Start → ℕ
 size s = s.args.sweep.divisions * 3
 
 last-place : (s : Start) → let m = s.args.sweep.segments in m * size s ≡ size s + (m - 1) * size s
-last-place s = let m = s.args.sweep.segments in
-    let segment = s.requires.0.segment in
+last-place s =
+    let m = s.args.sweep.segments in
+    let segment = s.requires.open_sweep.segment in
     let e : m - 1 + 1 ≡ m = omega arith in
     omega (arith, next_row (m - 1) (size s), ap (λ (k : ℕ). k * size s) e)
 
 -- the three writes are within bounds
 room : (s : Start) → (size s ≤ 768) × (s.args.sweep.segments * size s + size s ≤ length s.args.out.now)
-room s = let m = s.args.sweep.segments in omega (arith, s.requires.0.turned.most, s.requires.1, next_row m (size s))
+room s =
+    let m = s.args.sweep.segments in
+    omega (arith, s.requires.open_sweep.turned.most, s.requires.room, next_row m (size s))
 
 -- what is carried begins on the first segment
-start : (f : After-first-start) → f.first.result ≡ carriedIn
-    f.before.before.before.before.before.before.before.before.before.args.directions.now 0
-start f = f.first.ensures ∙ ap carriedOn f.before.point.ensures
+start : (f : After-first-start) → f.first-start.result ≡ carriedIn f.args.directions.now 0
+start f = f.first-start.ensures ∙ ap carriedOn f.point.ensures
 
-pub point-requires : goal.point-requires
-point-requires c = let s = (goal.at.point-requires c).Start in
-    omega (arith, s.requires.0.segment, s.requires.0.table.room)
-
-pub write_ring-requires : goal.write_ring-requires
-write_ring-requires c = let s = (goal.at.write_ring-requires c).After-slice_known-1 in (omega (arith, room s), s.pre.0.turned)
+pub write_ring-requires-clause-room : goal.write_ring-requires-clause-room
+write_ring-requires-clause-room c = omega (arith, room (goal.at.write_ring-requires-clause-room c).Start)
 
 pub overflow_mul-inner : goal.overflow_mul-inner
-overflow_mul-inner c = let s = (goal.at.overflow_mul-inner c).After-slice_known-1 in omega (arith, room s)
+overflow_mul-inner c = omega (arith, room (goal.at.overflow_mul-inner c).Start)
 
 pub offset_bounds-out-n : goal.offset_bounds-out-n
-offset_bounds-out-n c = let s = (goal.at.offset_bounds-out-n c).After-slice_known-1 in omega (arith, room s)
+offset_bounds-out-n c = omega (arith, room (goal.at.offset_bounds-out-n c).Start)
 
 pub slice_bounds-inner-count : goal.slice_bounds-inner-count
-slice_bounds-inner-count c = let s = (goal.at.slice_bounds-inner-count c).After-slice_known-1 in omega (arith, room s, c.write_ring.auto.0)
+slice_bounds-inner-count c =
+    omega (arith, room (goal.at.slice_bounds-inner-count c).Start, c.write_ring.auto.out)
 
-pub write_inner-end-requires : goal.write_inner-end-requires
-write_inner-end-requires c = let w = (goal.at.write_inner-end-requires c).After-write_ring in
-    let f = w.before.before.before.before in
-    let s = f.before.before.before.before.before.before.before.before.before in
-    let has = s.requires.0 in (
-      (has.segment, start f),
-      (
-        (has.table.room, has.framez.room),
-        (
-          omega (arith, room s, last-place s, length_rest (size s) w.write-ring.new.0, w.write-ring.auto.0),
-          has.turned,
-        ),
-      ),
-    )
+pub write_inner-end-requires-clause-started : goal.write_inner-end-requires-clause-started
+write_inner-end-requires-clause-started c =
+    start (goal.at.write_inner-end-requires-clause-started c).After-first-start
+
+pub write_inner-end-requires-clause-room : goal.write_inner-end-requires-clause-room
+write_inner-end-requires-clause-room c =
+    let s = (goal.at.write_inner-end-requires-clause-room c).Start in
+    omega (arith, room s, last-place s, length_rest (size s) c.write_ring.new.out, c.write_ring.auto.out)
 
 -- the inner rings, written to the part that was lent
-abbrev rings : Start → List Float
-rings s = innerRings s.args.sweep s.args.curve.now s.args.directions.now s.args.ez.now
+abbrev rings : After-write_inner-end → List Float
+rings e = innerRings e.args.sweep e.args.curve.now e.args.directions.now e.args.ez.now
 
-inner : (e : After-write_inner-end) → let after = e.before.before.before.before.write-ring.new.0 in
-    let s = e.before.before.before.before.before.before.before.before.before.before.before.before.before.before.before.before.before in
-    put_mid (size s) (length after - size s) after e.write-inner.new.0 ≡ overwrite (size s) (rings s) after
-inner e = let s = e.before.before.before.before.before.before.before.before.before.before.before.before.before.before.before.before.before in lent-from (size s) (rings s)
-    e.before.before.before.before.write-ring.new.0 e.write-inner.ensures.1
+inner : (e : After-write_inner-end) →
+    let at = e.args.sweep.divisions * 3 in
+    let after = e.write_ring.new.out in
+    put_mid at (length after - at) after e.write_inner-end.new.out ≡ overwrite at (rings e) after
+inner e = lent-from (e.args.sweep.divisions * 3) (rings e) e.write_ring.new.out e.write_inner-end.ensures.written
 
 pub overflow_mul-n : goal.overflow_mul-n
-overflow_mul-n c = let s = (goal.at.overflow_mul-n c).After-shared_slice_known-1 in omega (arith, room s)
+overflow_mul-n c = omega (arith, room (goal.at.overflow_mul-n c).Start)
 
 pub overflow_mul-m : goal.overflow_mul-m
-overflow_mul-m c = let s = (goal.at.overflow_mul-m c).After-shared_slice_known-1 in omega (arith, room s)
+overflow_mul-m c = omega (arith, room (goal.at.overflow_mul-m c).Start)
 
-pub write_ring-requires-2 : goal.write_ring-requires-2
-write_ring-requires-2 c = let e = (goal.at.write_ring-requires-2 c).After-out-2-1 in
-    let w = e.before.before.before.before in
-    let s = w.before.before.before.before.before.before.before.before.before.before.before.before.before in (
-      omega (
-        arith,
-        room s,
-        ap length (inner e),
-        length-overwrite (size s) (rings s) w.write-ring.new.0,
-        w.write-ring.auto.0,
-      ),
-      s.pre.0.turned,
+pub write_ring-requires-2-clause-room : goal.write_ring-requires-2-clause-room
+write_ring-requires-2-clause-room c =
+    let s = (goal.at.write_ring-requires-2-clause-room c).Start in
+    let e = (goal.at.write_ring-requires-2-clause-room c).After-write_inner-end in
+    omega (
+      arith,
+      room s,
+      ap length (inner e),
+      length-overwrite (size s) (rings e) c.write_ring.new.out,
+      c.write_ring.auto.out,
     )
 
 pub returns : goal.returns
-returns c = let l = (goal.at.returns c).After-write_ring-2 in
-    let y = l.before.before.before in
-    let e = y.before.before.before in
-    let w = e.before.before.before.before in
-    let x = w.before.before.before in
-    let f = x.before in
-    let s = f.before.before.before.before.before.before.before.before.before in
-    let a = s.args in
+returns c =
+    let s = (goal.at.returns c).Start in
+    let e = (goal.at.returns c).After-write_inner-end in
+    let a = c.args in
     let n = a.sweep.divisions in
     let m = a.sweep.segments in
     let r = a.sweep.radius in
     let curve = a.curve.now in
-    let has = s.requires.0 in
-    let after = w.write-ring.new.0 in
+    let has = c.requires.open_sweep in
+    let after = c.write_ring.new.out in
     let ring = tubeRing n r m curve in
-    let first = x.axes-on.ensures ∙ ap (λ (b : Carried). axesAt (vertexOf curve 0) b.frame b.direction)
-    (start f) ∙ axes-first m curve has.table has.segment in
-    let last = y.axes-on2.ensures ∙ ap (λ (b : Carried). axesAt (vertexOf curve m) b.frame b.direction)
-    e.write-inner.ensures.0
+    let on-first = c.axes_on-first in
+    let on-last = c.axes_on-last in
+    let first = on-first.ensures ∙ ap (λ (b : Carried). axesAt (vertexOf curve 0) b.frame b.direction)
+    (start (goal.at.returns c).After-first-start) ∙ axes-first m curve has.table has.segment in
+    let last = on-last.ensures ∙ ap (λ (b : Carried). axesAt (vertexOf curve m) b.frame b.direction)
+    c.write_inner-end.ensures.carried
     ∙ axes-last m curve has.table has.segment in
     ends-written m (size s) ((m - 1) * size s) ring a.out.now has.segment
     (length-ring (tubeVertex (axesOf m curve 0) r) n) (length-rings (λ k. tubeVertex (axesOf m curve (k + 1)) r)
     (m - 1) n)
-    w.write-ring.ensures
-    (tube-ring n r m curve 0 (w.before.before.around.ensures
-    ∙ ap (λ (o : Order). ringAt o x.axes-on.result r) has.order) first)
+    c.write_ring.ensures
+    (tube-ring n r m curve 0 (c.around-ring.ensures
+    ∙ ap (λ (o : Order). ringAt o on-first.result r) has.order) first)
     (inner e ∙ ap (λ (v : List Float). overwrite (size s) v after) (tube-inner a.sweep curve has))
-    l.write-ring2.ensures (last-place s)
-    (tube-ring n r m curve m (l.before.before.around2.ensures
-    ∙ ap (λ (o : Order). ringAt o y.axes-on2.result r) has.order) last)
+    c.write_ring-2.ensures (last-place s)
+    (tube-ring n r m curve m (c.around-ring-2.ensures
+    ∙ ap (λ (o : Order). ringAt o on-last.result r) has.order) last)

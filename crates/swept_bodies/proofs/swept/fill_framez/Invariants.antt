@@ -1,18 +1,15 @@
 -- Each turn of the loop writes one ez after the one before. Assumes nothing.
-use mathlib.Core.Path.{◌≡◌, refl, sym, ap, ◌∙◌}
+use mathlib.Core.Path.{◌≡◌}
 use mathlib.Core.List.{List}
 use Prim.Native.Nat.{ℕ, ◌+◌, ◌*◌, ◌-◌, ◌≤◌}
-use native.Mathlib.Omega.{arith}
-use borrow.Author.Rules.{rules}
 use lib.Ieee.{Float}
 use lib.ListN.{length}
-use Rattle.laws.specs.Overwrite.{overwrite, overwrite-none}
-use Rattle.laws.specs.Blocks.{blocks, one_more, all-written}
+use Rattle.laws.specs.Overwrite.{overwrite}
+use Rattle.laws.specs.Blocks.{blocks}
 use Rattle.vec3.specs.Points.{coordinates}
 use Rattle.vec3.specs.declared.points.Point.{Point}
 use Rattle.curve.specs.Segments.{pointAt}
 use Rattle.rings.specs.Axes.{betweenOf}
-use Rattle.ring_writers.proofs.Tables.{table-point}
 use Rattle.swept_bodies.proofs.swept.fill_framez.Given as goal
 
 -- ez between segments k and k + 1

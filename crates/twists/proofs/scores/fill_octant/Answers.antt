@@ -1,9 +1,9 @@
 -- The sums of each arm are the scores of its octant: the pair of the octant says which table's
--- entries stand for its cosine and its sine, and which of them is negated. Assumes nothing.
-use mathlib.Core.Path.{◌≡◌, refl, sym, ap, ◌∙◌}
-use native.Mathlib.Omega.{arith}
-use borrow.Author.Rules.{rules}
-use lib.Ieee.{Float, binary32, neg}
+-- entries stand for its cosine and its sine, and which of them is negated.
+use Rattle.std.proofs.Common.{◌≡◌, refl, sym, ap, ◌∙◌, arith}
+use Rattle.std.specs.Prelude.{Float}
+use Rattle.std.specs.Float.{binary32}
+use Rattle.std.specs.Float.Ieee.{neg}
 use Rattle.float32.proofs.Signs.{mul-neg}
 use Rattle.vec3.specs.Points.{plus, times}
 use Rattle.vec3.specs.Turns.{inOctant}
@@ -23,41 +23,39 @@ negated a b x y = ap (λ (p : Float). plus p (times b y)) (mul-neg binary32 a x)
 
 pub returns-in-0 : goal.returns-in-0
 unfolding inOctant
-returns-in-0 c = let m = (goal.at.returns-in-0 c).In-0 in
-    let a = m.before.before.before.before.args in
-    let t = m.before.before.before.before.requires.1 in
+returns-in-0 c =
+    let a = c.args in
+    let t = c.requires.1 in
     c.fill_sums.ensures
-    ∙ octant-sums a.c0 a.s0 a.c0 a.s0 0 a.cos.now a.sin.now cosine sine (omega arith)
-    t.cosine t.sine (λ d. refl)
-    ∙ ap (octantScores a.c0 a.s0) (sym m.match.keys1)
+    ∙ octant-sums a.c0 a.s0 a.c0 a.s0 0 a.cos.now a.sin.now cosine sine (omega arith) t.cosine t.sine (λ d. refl)
+    ∙ ap (octantScores a.c0 a.s0) (sym c.in-0.is)
 
 pub returns-in-1 : goal.returns-in-1
 unfolding inOctant
-returns-in-1 c = let m = (goal.at.returns-in-1 c).In-1 in
-    let a = m.before.before.before.before.args in
-    let t = m.before.before.before.before.requires.1 in
+returns-in-1 c =
+    let a = c.args in
+    let t = c.requires.1 in
     c.fill_sums-in-1.ensures
-    ∙ octant-sums a.c0 a.s0 a.c0 a.s0 1 a.sin.now a.cos.now sine cosine (omega arith)
-    t.sine t.cosine (λ d. refl)
-    ∙ ap (octantScores a.c0 a.s0) (sym m.match.keys2)
+    ∙ octant-sums a.c0 a.s0 a.c0 a.s0 1 a.sin.now a.cos.now sine cosine (omega arith) t.sine t.cosine (λ d. refl)
+    ∙ ap (octantScores a.c0 a.s0) (sym c.in-1.is)
 
 pub returns-in-2 : goal.returns-in-2
 unfolding inOctant
-returns-in-2 c = let m = (goal.at.returns-in-2 c).In-2 in
-    let a = m.before.before.before.before.args in
-    let t = m.before.before.before.before.requires.1 in
+returns-in-2 c =
+    let a = c.args in
+    let t = c.requires.1 in
     c.fill_sums-in-2.ensures
-    ∙ octant-sums a.c0 a.s0 (neg a.c0) a.s0 2 a.sin.now a.cos.now sine cosine (omega arith)
-    t.sine t.cosine (λ d. negated a.c0 a.s0 d.sin d.cos)
-    ∙ ap (octantScores a.c0 a.s0) (sym m.match.keys3)
+    ∙ octant-sums a.c0 a.s0 (neg a.c0) a.s0 2 a.sin.now a.cos.now sine cosine (omega arith) t.sine t.cosine
+    (λ d. negated a.c0 a.s0 d.sin d.cos)
+    ∙ ap (octantScores a.c0 a.s0) (sym c.in-2.is)
 
 pub returns-in_default : goal.returns-in_default
 unfolding inOctant
-returns-in_default c = let m = (goal.at.returns-in_default c).In_default in
-    let a = m.before.before.before.before.args in
-    let t = m.before.before.before.before.requires.1 in
+returns-in_default c =
+    let a = c.args in
+    let t = c.requires.1 in
     let last : a.octant ≡ 3 = omega arith in
     c.fill_sums-in_default.ensures
-    ∙ octant-sums a.c0 a.s0 (neg a.c0) a.s0 3 a.cos.now a.sin.now cosine sine (omega arith)
-    t.cosine t.sine (λ d. negated a.c0 a.s0 d.cos d.sin)
+    ∙ octant-sums a.c0 a.s0 (neg a.c0) a.s0 3 a.cos.now a.sin.now cosine sine (omega arith) t.cosine t.sine
+    (λ d. negated a.c0 a.s0 d.cos d.sin)
     ∙ ap (octantScores a.c0 a.s0) (sym last)

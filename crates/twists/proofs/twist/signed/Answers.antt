@@ -1,4 +1,4 @@
--- Each arm is what `cond` picks. Assumes nothing.
+-- Each arm is what `cond` picks.
 use Rattle.twists.specs.Twists.{signed}
 use Rattle.twists.proofs.twist.signed.Goals as goal
 

@@ -1,5 +1,5 @@
--- `vec3::frames::perpendicular` meets its contract: each arm is what `cond` picks where the test is as the arm found it. Assumes nothing.
-use borrow.Author.Rules.{rules}
+-- `vec3::frames::perpendicular` meets its contract: each arm is what `cond` picks where the test
+-- is as the arm found it. Assumes nothing.
 use Rattle.vec3.specs.Frames.{perpendicularTo, acrossX, acrossY}
 use Rattle.vec3.proofs.frames.perpendicular.Goals as goal
 

@@ -1,5 +1,5 @@
--- `vec3::turns::direction_of` meets its contract: each call gives what the definition names. Assumes nothing.
-use borrow.Author.Rules.{rules}
+-- `vec3::turns::direction_of` meets its contract: each call gives what the definition names.
+-- Assumes nothing.
 use native.Mathlib.Nat.{mod-lt, div-lt_iff_lt-mul}
 use native.Mathlib.Omega.{arith}
 use Prim.Native.Nat.{◌*◌}

@@ -1,5 +1,5 @@
--- `vec3::turns::part` meets its contract: each arm is what `cond` picks where the test is as the arm found it. Assumes nothing.
-use borrow.Author.Rules.{rules}
+-- `vec3::turns::part` meets its contract: each arm is what `cond` picks where the test is as the
+-- arm found it. Assumes nothing.
 use borrow.Author.Tests.{eq-eqb, ne_eqb}
 use native.Mathlib.Omega.{arith}
 use lib.Dec.{le→leb}

@@ -1,4 +1,5 @@
--- `vec3::turns::sine` meets its contract: the code is the definition, its numbers by their bit patterns. Assumes nothing.
+-- `vec3::turns::sine` meets its contract: the code is the definition, its numbers by their bit
+-- patterns. Assumes nothing.
 use mathlib.Core.Path.{refl}
 use lib.Ieee.{of_int, of_bits}
 use Rattle.vec3.specs.Turns.{sineOf, bracket, fraction, minusFraction, whole}

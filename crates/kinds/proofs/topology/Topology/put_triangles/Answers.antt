@@ -1,6 +1,6 @@
 -- A permitted body is written as its surface is; their counts and their lists are the same.
 -- Assumes nothing.
-use mathlib.Core.Path.{◌≡◌, sym, ap, ◌∙◌}
+use mathlib.Core.Path.{sym, ap, ◌∙◌}
 use mathlib.Core.List.{List}
 use native.Mathlib.Omega.{arith}
 use Rattle.laws.specs.Overwrite.{overwrite}
@@ -8,17 +8,15 @@ use Rattle.surface.specs.Triangles.{Triangle, flatten}
 use Rattle.surface.specs.Whole.{surfaceVertexCount, surfaceTriangleCount, surfaceTriangles}
 use Rattle.surface.specs.declared.whole.Surface.{Surface}
 use Rattle.kinds.proofs.AsSurface.{as-surface, same-vertices, same-triangles}
-use borrow.Author.Rules.{rules}
 use Rattle.kinds.proofs.topology.Topology.put_triangles.Goals as goal
 
 pub put_triangles-requires : goal.put_triangles-requires
 put_triangles-requires c =
-    let s = (goal.at.put_triangles-requires c).Start in
     let drawn = c.surface.ensures in
-    let body = s.args.self in
+    let body = c.args.self in
     let vertices = ap surfaceVertexCount drawn ∙ same-vertices body in
     let triangles = ap surfaceTriangleCount drawn ∙ same-triangles body in
-    (omega (arith, s.requires), omega (arith, s.requires))
+    record { numbers = omega arith; within = omega arith }
 
 pub returns : goal.returns
 returns c = let a = c.args in

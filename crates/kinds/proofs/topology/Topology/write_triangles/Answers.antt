@@ -9,23 +9,25 @@ use Rattle.surface.specs.Whole.{surfaceTriangles, placeable}
 use Rattle.surface.specs.declared.whole.Surface.{Surface}
 use Rattle.kinds.specs.Kinds.{permitted}
 use Rattle.kinds.proofs.AsSurface.{as-surface, placeable-writable, not-writable}
-use borrow.Author.Rules.{rules}
 use Rattle.kinds.proofs.topology.Topology.write_triangles.Goals as goal
 
 pub returns-then-is_permitted : goal.returns-then-is_permitted
 returns-then-is_permitted c = let a = c.args in
     let w = c.write_triangles in
     let s = c.surface.ensures in
-    let t = (goal.at.returns-then-is_permitted c).Then-is_permitted in
-    let p : permitted a.self ≡ true = sym t.before.is-permitted.ensures ∙ t.if1.true in (
-      w.ensures.0
+    let p : permitted a.self ≡ true = sym c.is_permitted.ensures ∙ c.if-is_permitted.true in
+    record {
+      answer = w.ensures.answer
           ∙ ap (λ (x : Surface). placeable x a.first (length a.out.now)) s
-          ∙ placeable-writable a.self a.first (length a.out.now) p,
-      w.ensures.1
+          ∙ placeable-writable a.self a.first (length a.out.now) p;
+      written = w.ensures.written
           ∙ ap (λ (x : Surface). placed w.result (flatten (surfaceTriangles x a.first)) a.out.now) s
-          ∙ ap (λ (l : List Triangle). placed w.result (flatten l) a.out.now) (sym (as-surface a.self a.first)),
-    )
+          ∙ ap (λ (l : List Triangle). placed w.result (flatten l) a.out.now) (sym (as-surface a.self a.first));
+    }
 
 pub returns : goal.returns
 returns c = let a = c.args in
-    (not-writable a.self a.first (length a.out.now) (sym c.is_permitted.ensures ∙ c.if-is_permitted.false), refl)
+    record {
+      answer = not-writable a.self a.first (length a.out.now) (sym c.is_permitted.ensures ∙ c.if-is_permitted.false);
+      written = refl;
+    }

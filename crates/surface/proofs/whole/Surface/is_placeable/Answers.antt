@@ -2,7 +2,6 @@
 use mathlib.Core.Path.{ap, ◌∙◌}
 use Prim.Native.Nat.{ℕ, ◌+◌, ◌^◌, ◌≤◌, ◌<◌}
 use native.Mathlib.Omega.{arith}
-use borrow.Author.Rules.{rules}
 use borrow.Author.Tests.{le-leb, lt-leb}
 use lib.Dec.{leb}
 use Rattle.surface.specs.Limits.{fits}
@@ -17,7 +16,7 @@ pub returns-then-first-vertex_count : goal.returns-then-first-vertex_count
 unfolding placeable
 returns-then-first-vertex_count c = let a = c.args in
     let below : a.first + surfaceVertexCount a.self ≤ 2 ^ 28 = omega arith in
-    c.fits2.ensures
+    c.fits.ensures
     ∙ ap (λ (k : ℕ). fits k a.room) c.triangle_count.ensures
     ∙ rw (le-leb (a.first + surfaceVertexCount a.self) (2 ^ 28) below)
 

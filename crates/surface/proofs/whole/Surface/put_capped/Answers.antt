@@ -3,7 +3,6 @@ use mathlib.Core.Path.{◌≡◌, sym, ap, ◌∙◌}
 use mathlib.Core.List.{◌++◌}
 use Prim.Native.Nat.{◌+◌, ◌*◌, ◌^◌, ◌≤◌}
 use native.Mathlib.Omega.{arith}
-use borrow.Author.Rules.{rules}
 use lib.ListN.{length}
 use Rattle.laws.specs.Overwrite.{overwrite}
 use Rattle.surface.specs.Triangles.{flatten}
@@ -13,13 +12,13 @@ use Rattle.surface.proofs.Flatten.{three-written}
 use Rattle.surface.proofs.Pieces.{length-cap, length-grid, bottomOf, top_of, capped-parts}
 use Rattle.surface.proofs.Room.{capped_fits}
 use Rattle.surface.proofs.whole.Surface.put_capped.Goals as goal
-use Rattle.surface.proofs.whole.Surface.put_capped.Goals.{After-ring_count, After-ring_size-ring}
+use Rattle.surface.proofs.whole.Surface.put_capped.Goals.{After-ring_count}
 
 -- how far the top pole and the last ring lie past the first ring
 to-pole : (c : After-ring_count) → c.ring_count.result * c.ring_size-ring.result ≡ gridSize c.args.self
 to-pole c = λ i. c.ring_count.ensures i * c.ring_size-ring.ensures i
 
-to-rim : (c : After-ring_size-ring) → let s = c.args.self in s.rows * c.ring_size-ring.result ≡ s.rows * ringSize s
+to-rim : (c : After-ring_count) → let s = c.args.self in s.rows * c.ring_size-ring.result ≡ s.rows * ringSize s
 to-rim c = ap (λ k. c.args.self.rows * k) c.ring_size-ring.ensures
 
 -- the numbers and the places are within bounds
@@ -31,12 +30,7 @@ room : (c : After-ring_count) → let a = c.args in
     × (s.columns * 3 + s.rows * s.columns * 6 + s.columns * 3 ≤ length a.out.now)
 room c = let a = c.args in
     let p = c.requires in
-    omega (arith, to-pole c, to-rim c.before, capped_fits a.self a.first (length a.out.now) p.1.0 p.1.1 p.0)
-
-pub overflow_add-side : goal.overflow_add-side
-overflow_add-side c = let a = c.args in
-    let p = c.requires in
-    omega (arith, capped_fits a.self a.first (length a.out.now) p.1.0 p.1.1 p.0)
+    omega (arith, to-pole c, to-rim c, capped_fits a.self a.first (length a.out.now) p.numbers p.within p.capped)
 
 pub overflow_mul-pole : goal.overflow_mul-pole
 overflow_mul-pole c = omega (arith, room (goal.at.overflow_mul-pole c).After-ring_count)
@@ -44,20 +38,8 @@ overflow_mul-pole c = omega (arith, room (goal.at.overflow_mul-pole c).After-rin
 pub overflow_add-pole : goal.overflow_add-pole
 overflow_add-pole c = omega (arith, room (goal.at.overflow_add-pole c).After-ring_count)
 
-pub overflow_mul-rim : goal.overflow_mul-rim
-overflow_mul-rim c = omega (arith, room (goal.at.overflow_mul-rim c).After-ring_count)
-
 pub overflow_add-rim : goal.overflow_add-rim
 overflow_add-rim c = omega (arith, room (goal.at.overflow_add-rim c).After-ring_count)
-
-pub overflow_mul-high : goal.overflow_mul-high
-overflow_mul-high c = omega (arith, room (goal.at.overflow_mul-high c).After-ring_count)
-
-pub overflow_mul-high-2 : goal.overflow_mul-high-2
-overflow_mul-high-2 c = omega (arith, room (goal.at.overflow_mul-high-2 c).After-ring_count)
-
-pub overflow_add-high : goal.overflow_add-high
-overflow_add-high c = omega (arith, room (goal.at.overflow_add-high c).After-ring_count)
 
 pub write_cap-requires : goal.write_cap-requires
 write_cap-requires c = let f = room (goal.at.write_cap-requires c).After-ring_count in record { rim-numbers = omega arith; within = omega arith }
@@ -75,18 +57,19 @@ write_cap-requires-2 c =
 
 pub returns : goal.returns
 returns c = let m = (goal.at.returns c).After-ring_count in
-    let a = m.before.before.before.before.before.args in
+    let a = c.args in
     let s = a.self in
     let t₀ = a.out.now in
+    let ring = c.ring_size-ring.result in
     let pole = to-pole m in
-    let rim = to-rim m.before in
+    let rim = to-rim m in
     let bottom = bottomOf s a.first in
     let grid = surfaceGrid s (a.first + 1) in
-    three-written bottom grid (top_of s a.first (m.ring-count.result * m.before.ring-size.result) (s.rows * m.before.ring-size.result)) t₀
+    three-written bottom grid (top_of s a.first (c.ring_count.result * ring) (s.rows * ring)) t₀
     c.write_cap.ensures
     c.write_grid.ensures
     c.write_cap-2.ensures
     (sym (length-cap Bottom s.columns a.first (a.first + 1)))
     (omega (arith, length-grid s.split s.round s.columns (chainOf s.ending) s.rows (a.first + 1)))
     ∙ (λ i. overwrite 0 (flatten (bottom ++ (grid ++ top_of s a.first (pole i) (rim i)))) t₀)
-    ∙ ap (λ l. overwrite 0 (flatten l) t₀) (sym (capped-parts s a.first m.before.before.before.before.before.requires.0))
+    ∙ ap (λ l. overwrite 0 (flatten l) t₀) (sym (capped-parts s a.first c.requires.capped))

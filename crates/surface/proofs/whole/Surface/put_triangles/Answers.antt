@@ -1,7 +1,6 @@
 -- A capped surface and a bare grid are written each by its own writer. Assumes nothing.
 use mathlib.Core.Path.{◌≡◌, sym, ap, ◌∙◌}
 use mathlib.Core.Bool.{false}
-use borrow.Author.Rules.{rules}
 use lib.ListN.{length}
 use Rattle.laws.specs.Overwrite.{overwrite}
 use Rattle.surface.specs.Triangles.{flatten}
@@ -16,9 +15,9 @@ is-bare c = sym c.is_capped.ensures ∙ c.if-is_capped.false
 
 pub write_grid-requires : goal.write_grid-requires
 write_grid-requires c =
-    let s = (goal.at.write_grid-requires c).Start in
-    let a = s.args in
-    bare-fits a.self a.first (length a.out.now) s.requires.0 s.requires.1 (is-bare (goal.at.write_grid-requires c).Else-is_capped)
+    let a = c.args in
+    bare-fits a.self a.first (length a.out.now) c.requires.numbers c.requires.within
+    (is-bare (goal.at.write_grid-requires c).Else-is_capped)
 
 pub returns-else-is_capped : goal.returns-else-is_capped
 returns-else-is_capped c = let a = c.args in

@@ -2,20 +2,12 @@
 use mathlib.Core.Path.{◌≡◌, sym, ap, ◌∙◌}
 use Prim.Native.Nat.{ℕ, ◌+◌, ◌*◌}
 use native.Mathlib.Omega.{arith}
-use borrow.Author.Rules.{rules}
 use Rattle.surface.specs.Whole.{gridSize, surfaceVertexCount}
-use Rattle.surface.proofs.Counts.{few-points}
 use Rattle.surface.proofs.whole.Surface.vertex_count.Goals as goal
 use Rattle.surface.proofs.whole.Surface.vertex_count.Goals.{After-ring_size}
 
 grid-is : (c : After-ring_size) → c.ring_count.result * c.ring_size.result ≡ gridSize c.args.self
 grid-is c = λ i. c.ring_count.ensures i * c.ring_size.ensures i
-
-pub overflow_mul-grid : goal.overflow_mul-grid
-overflow_mul-grid c = omega (arith, grid-is (goal.at.overflow_mul-grid c).After-ring_size, few-points c.args.self (omega arith) (omega arith))
-
-pub overflow_add-result : goal.overflow_add-result
-overflow_add-result c = omega (arith, grid-is (goal.at.overflow_add-result c).After-ring_size, few-points c.args.self (omega arith) (omega arith))
 
 pub returns-then-is_capped : goal.returns-then-is_capped
 unfolding surfaceVertexCount

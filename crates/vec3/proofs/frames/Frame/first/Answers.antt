@@ -1,6 +1,6 @@
--- `vec3::Frame::first` meets its contract: each call gives what the definition names. Assumes nothing.
+-- `vec3::Frame::first` meets its contract: each call gives what the definition names. Assumes
+-- nothing.
 use mathlib.Core.Path.{ap, ◌∙◌}
-use borrow.Author.Rules.{rules}
 use Rattle.vec3.specs.Frames.{frameBeside, firstFrame}
 use Rattle.vec3.proofs.frames.Frame.first.Goals as goal
 

@@ -1,5 +1,5 @@
--- `vec3::Frame::transport` meets its contract: each call gives what the definition names. Assumes nothing.
-use borrow.Author.Rules.{rules}
+-- `vec3::Frame::transport` meets its contract: each call gives what the definition names. Assumes
+-- nothing.
 use Rattle.vec3.specs.Frames.{transported}
 use Rattle.vec3.proofs.frames.Frame.transport.Goals as goal
 

@@ -1,6 +1,6 @@
--- `vec3::Point::norm` meets its contract: each call gives what the definition names. Assumes nothing.
+-- `vec3::Point::norm` meets its contract: each call gives what the definition names. Assumes
+-- nothing.
 use mathlib.Core.Path.{ap, ◌∙◌}
-use borrow.Author.Rules.{rules}
 use Rattle.float32.specs.Root.{rootOf}
 use Rattle.vec3.specs.Points.{normOf}
 use Rattle.vec3.proofs.points.Point.norm.Goals as goal

@@ -1,6 +1,6 @@
--- `vec3::Point::normalize` meets its contract: each call gives what the definition names. Assumes nothing.
+-- `vec3::Point::normalize` meets its contract: each call gives what the definition names. Assumes
+-- nothing.
 use mathlib.Core.Path.{ap, ◌∙◌}
-use borrow.Author.Rules.{rules}
 use Rattle.vec3.specs.Points.{quotient_of, normalised}
 use Rattle.vec3.proofs.points.Point.normalize.Goals as goal
 

@@ -1,9 +1,0 @@
--- Each place lies within the buffer. Assumes nothing.
-use Rattle.std.proofs.Common.{◌≡◌, ◌-◌, ◌≤◌, length, arith, length-set, rules}
-use Rattle.neighbours.proofs.markers.mark.Goals as goal
-
-pub loop-i-smaller : goal.loop-i-smaller
-loop-i-smaller c = simp length-set (omega arith)
-
-pub loop-i-preserved : goal.loop-i-preserved
-loop-i-preserved c = simp length-set (omega arith)

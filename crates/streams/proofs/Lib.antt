@@ -1,0 +1,3 @@
+mod Kept
+mod Records
+pub mod Words

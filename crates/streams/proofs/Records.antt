@@ -1,0 +1,108 @@
+-- The words of a head and of what follows it: what they are once they were read, and whether they begin with a record.
+-- Assumes nothing.
+use Rattle.std.proofs.Common.{◌≡◌, ℕ, ◌+◌, ◌-◌, ◌*◌, ◌/◌, ◌≤◌, ◌<◌, min, Bool, true, false, cond, ◌&&◌, List, [], ◌++◌, ◌∙◌, refl, sym, ap, subst, arith, length, take, drop, get_or, length-append, length-take}
+use borrow.Author.Tests.{le-leb, lt-leb, leb-true, leb-false}
+use lib.Dec.{leb}
+use Rattle.std.proofs.Math.ListN.{get_or-append}
+use Rattle.laws.specs.Overwrite.{placed}
+use Rattle.laws.specs.Lent.{part-written}
+use Rattle.little_endian.specs.Words.{words_in}
+use Rattle.records.specs.Records.{headWords, mostVertices, verticesNamed, headNames, lengthNamed, recordWords}
+use Rattle.records.proofs.Lengths.{all_there, too_few, named-bounds}
+use Rattle.std.specs.declared.option.Option.{Option}
+use Rattle.std.specs.declared.option.Option.TheVariants.{None, Some}
+use Rattle.std.specs.Io.KnownBytes.{Consumes, prepend_known}
+use Rattle.streams.specs.declared.record.Next.{Next}
+use Rattle.streams.specs.declared.record.Next.TheVariants.{Record, Stop as StopsFor}
+use Rattle.streams.specs.Record.{NamesTooMany, IsCutShort, ReadFrom}
+use Rattle.streams.proofs.Words.{length-words, words-append}
+
+-- words that were read to the front of a buffer with room for them
+pub read_back : (count : ℕ) (bytes words₀ : List ℕ) {words : List ℕ} {r : Bool} → length bytes ≡ 4 * count → count ≤ length words₀
+    → r ≡ leb (length bytes / 4) (length words₀) → words ≡ placed r (words_in bytes) words₀ → take count words ≡ words_in bytes
+read_back count bytes words₀ sized room is written =
+    let fits : length bytes / 4 ≤ length words₀ = omega arith in
+    let long : length (words_in bytes) ≡ count = omega (arith, length-words bytes) in
+    ap (take count) (written ∙ ap (λ (b : Bool). placed b (words_in bytes) words₀) (is ∙ le-leb (length bytes / 4) (length words₀) fits))
+    ∙ part-written 0 count (words_in bytes) words₀ long (omega (arith, room))
+
+-- what a head names, whatever follows it
+module _ (head more : List ℕ) (has : 7 ≤ length head) where
+  pub same_vertices : verticesNamed (head ++ more) ≡ verticesNamed head
+  same_vertices = get_or-append head more 0 6 has
+
+  pub same_named : lengthNamed (head ++ more) ≡ lengthNamed head
+  unfolding headNames
+  same_named =
+      let all = head ++ more in
+      let long : 7 ≤ length all = omega (arith, length-append head more) in
+      λ j. cond ((le-leb 7 (length all) long ∙ sym (le-leb 7 (length head) has)) j && leb (same_vertices j) 512) (7 + 3 * same_vertices j) 0
+
+-- a head that names no length names too many vertices
+pub too_many : (words : List ℕ) → 7 ≤ length words → lengthNamed words ≡ 0 → NamesTooMany words
+unfolding headNames
+too_many words has none = (has, by (leb (verticesNamed words) 512) refl) where
+  by : (b : Bool) → leb (verticesNamed words) 512 ≡ b → 512 < verticesNamed words
+  by true e =
+      let named : lengthNamed words ≡ 7 + 3 * verticesNamed words = λ j. cond (le-leb 7 (length words) has j && e j) (7 + 3 * verticesNamed words) 0 in
+      absurd (omega (arith, named, none))
+  by false e = leb-false (verticesNamed words) 512 e
+
+-- one that names a length does not
+pub few_enough : (words : List ℕ) → 7 ≤ length words → (lengthNamed words ≡ 0 → ⊥) → verticesNamed words ≤ 512
+unfolding headNames
+few_enough words has some = by (leb (verticesNamed words) 512) refl where
+  by : (b : Bool) → leb (verticesNamed words) 512 ≡ b → verticesNamed words ≤ 512
+  by true e = leb-true (verticesNamed words) 512 e
+  by false e = absurd (some (λ j. cond (le-leb 7 (length words) has j && e j) (7 + 3 * verticesNamed words) 0))
+
+-- 28 bytes that are the head of a record of `count` words, and the bytes behind them
+module _ (count : ℕ) (head more : List ℕ) (sized : length head ≡ 28) (named : count ≡ lengthNamed (words_in head)) (has : 7 ≤ count) where
+  split : words_in (head ++ more) ≡ words_in head ++ words_in more
+  split = words-append 7 head more sized
+
+  seven : length (words_in head) ≡ 7
+  seven = omega (arith, length-words head)
+
+  named-still : count ≡ lengthNamed (words_in (head ++ more))
+  named-still = named ∙ sym (ap lengthNamed split ∙ same_named (words_in head) (words_in more) (omega (arith, seven)))
+
+  long : length (words_in (head ++ more)) ≡ (28 + length more) / 4
+  long = omega (arith, length-words (head ++ more), length-append head more)
+
+  pub is_whole : length more ≡ 4 * count - 28 → count ≡ recordWords (words_in (head ++ more))
+  is_whole fits = all_there (words_in (head ++ more)) named-still (omega (arith, long, fits))
+
+  pub is-cut-short : length more < 4 * count - 28 → IsCutShort (words_in (head ++ more))
+  is-cut-short lacks = (
+    sym (too_few (words_in (head ++ more)) named-still (omega (arith, long, lacks))),
+    λ _. few_enough (words_in (head ++ more)) (omega (arith, long)) (λ none. omega (arith, named-still, none)),
+  )
+
+-- fewer bytes than a head has
+pub no_head : (bytes : List ℕ) → length bytes < 28 → IsCutShort (words_in bytes)
+unfolding headNames
+no_head bytes few =
+    let words = words_in bytes in
+    let short : length words < 7 = omega (arith, length-words bytes, few) in
+    let none : lengthNamed words ≡ 0 = λ j. cond (lt-leb 7 (length words) short j && leb (verticesNamed words) 512) (7 + 3 * verticesNamed words) 0 in
+    (sym (all_there words (sym none) (omega arith)), λ has. absurd (omega (arith, has, short)))
+
+-- a head that names too many vertices, whatever follows it
+pub still_too_many : (head more : List ℕ) → length head ≡ 28 → lengthNamed (words_in head) ≡ 0 → NamesTooMany (words_in (head ++ more))
+still_too_many head more sized none =
+    let seven : 7 ≤ length (words_in head) = omega (arith, length-words head) in
+    let split = words-append 7 head more sized in
+    let told = too_many (words_in head) seven none in
+    subst NamesTooMany (sym split) (
+      omega (arith, length-append (words_in head) (words_in more), seven),
+      omega (arith, told.1, same_vertices (words_in head) (words_in more) seven),
+    )
+
+-- what follows a head, as what the head begins
+pub behind_head : (old mid new : Option (List ℕ)) (head : List ℕ) (next : Next) (found : List ℕ) → Consumes old mid head
+    → ReadFrom (prepend_known head mid) new next found → ReadFrom old new next found
+behind_head None mid new head (Record count) found p (bytes, q, sized, read) = (bytes, tt, sized, read)
+behind_head None mid new head (StopsFor why) found p q = tt
+behind_head (Some x) None new head next found p q = absurd p
+behind_head (Some x) (Some y) new head next found p q = subst (λ (l : List ℕ). ReadFrom (Some l) new next found) (sym p) q
