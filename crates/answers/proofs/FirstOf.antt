@@ -7,7 +7,7 @@ use Prim.Native.Nat.{ℕ}
 use native.Mathlib.Omega.{arith}
 use borrow.Author.Tests.{not-true, not-false}
 use lib.Dec.{T, eqb}
-use Rattle.answers.specs.Answers.{Answer, Test, AllPermitted, refused, accepted, isAccepted, first_of}
+use Rattle.answers.specs.Answers.{Answer, Test, AllPermitted, refused, accepted, is_accepted, first_of}
 
 -- what `if !test` tells on its two ways
 pub refuses : {x p : Bool} → x ≡ p → not x ≡ true → p ≡ false
@@ -29,12 +29,12 @@ module _ {A : Type 0} where
       let rest = accepted-by ts b first.1 in
       (rest.0, (first.0, rest.1))
 
-  test-accepted : (p : Bool) (k : ℕ) (rest : Answer A) → isAccepted (cond p rest (refused k)) ≡ true → (p ≡ true) × (isAccepted rest ≡ true)
+  test-accepted : (p : Bool) (k : ℕ) (rest : Answer A) → is_accepted (cond p rest (refused k)) ≡ true → (p ≡ true) × (is_accepted rest ≡ true)
   test-accepted true k rest h = (refl, h)
   test-accepted false k rest h = absurd (subst T (sym h) tt)
 
   -- the same, where only that it is one is known
-  pub all-permitted : (ts : List Test) (a : A) → isAccepted (first_of ts a) ≡ true → AllPermitted ts
+  pub all-permitted : (ts : List Test) (a : A) → is_accepted (first_of ts a) ≡ true → AllPermitted ts
   all-permitted [] a h = tt
   all-permitted (t ∷ ts) a h =
       let first = test-accepted t.permitted t.number (first_of ts a) h in

@@ -13,9 +13,9 @@ pub data Answer (A : Type 0) : Type 0 where
   refused : ℕ → Answer A
   accepted : A → Answer A
 
-abbrev pub isAccepted : {A : Type 0} → Answer A → Bool
-isAccepted (refused number) = false
-isAccepted (accepted a) = true
+abbrev pub is_accepted : {A : Type 0} → Answer A → Bool
+is_accepted (refused number) = false
+is_accepted (accepted a) = true
 
 -- "Refusals return their number": it, and 0 where nothing is refused
 abbrev pub number_in : {A : Type 0} → Answer A → ℕ
@@ -41,8 +41,8 @@ AllPermitted [] = Unit
 AllPermitted (t ∷ ts) = (t.permitted ≡ true) × AllPermitted ts
 
 -- 23, the one refusal that touches a buffer
-abbrev pub notFinite : ℕ
-notFinite = 23
+abbrev pub not_finite : ℕ
+not_finite = 23
 
 -- document 01's number of each reason
 abbrev pub number_of : Refusal → ℕ
@@ -58,8 +58,8 @@ number_of Fold = 13
 number_of Divisions = 20
 number_of Layers = 21
 number_of Size = 22
-number_of NotFinite = notFinite
+number_of NotFinite = not_finite
 
-abbrev pub outcomeAnswer : Outcome → Answer (Unit {0})
-outcomeAnswer Accepted = accepted tt
-outcomeAnswer (Refused why) = refused (number_of why)
+abbrev pub outcome_answer : Outcome → Answer (Unit {0})
+outcome_answer Accepted = accepted tt
+outcome_answer (Refused why) = refused (number_of why)

@@ -1,5 +1,5 @@
 ghost use Rattle.std.specs.Prelude.{◌≡◌};
-ghost use Rattle.answers.specs.Answers.{number_in, outcomeAnswer};
+ghost use Rattle.answers.specs.Answers.{number_in, outcome_answer};
 
 use crate::refusal::Refusal;
 
@@ -14,7 +14,7 @@ pub enum Outcome {
 impl Outcome {
     // Document 01's number of the refusal, 0 where nothing is refused.
     pub fn number(self) -> u32
-        ensures { result ≡ number_in (outcomeAnswer self) }
+        ensures { result ≡ number_in (outcome_answer self) }
     {
         match self {
             Outcome::Accepted => 0,

@@ -2,17 +2,17 @@
 -- because the search picks one, and of the other kinds nothing is asked. Assumes nothing.
 use mathlib.Core.List.{List}
 use lib.Ieee.{Float}
-use Rattle.curve.specs.Segments.{verticesIn}
+use Rattle.curve.specs.Segments.{vertices_in}
 use Rattle.descriptions.specs.declared.description.Description.{Description}
 use Rattle.twists.proofs.Chosen.{chosen-best}
-use Rattle.seamless_torus.specs.Polyloop3.{endsOf}
-use Rattle.bodies.specs.Bodies.{BestTwist, twistTaken}
+use Rattle.seamless_torus.specs.Polyloop3.{ends_of}
+use Rattle.bodies.specs.Bodies.{BestTwist, twist_taken}
 use Rattle.bodies.proofs.Untwisted.{by-twist}
 
-pub taken-best : (d : Description) (c : List Float) → BestTwist d c (twistTaken d c)
+pub taken-best : (d : Description) (c : List Float) → BestTwist d c (twist_taken d c)
 taken-best d c =
-    let ends = endsOf (verticesIn c) c in
-    by-twist (λ (d : Description). BestTwist d c (twistTaken d c)) c
+    let ends = ends_of (vertices_in c) c in
+    by-twist (λ (d : Description). BestTwist d c (twist_taken d c)) c
     (λ n r. chosen-best ends.c0 ends.s0)
-    (λ d u. u.best (twistTaken d c))
+    (λ d u. u.best (twist_taken d c))
     d

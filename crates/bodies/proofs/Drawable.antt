@@ -10,52 +10,52 @@ use lib.ListN.{length}
 use Rattle.laws.specs.Conjunction.{both_true}
 use Rattle.surface.specs.Limits.{fits}
 use Rattle.surface.proofs.Totals.{fits-bounds}
-use Rattle.kinds.specs.Kinds.{vertexCount}
+use Rattle.kinds.specs.Kinds.{vertex_count}
 use Rattle.kinds.specs.declared.topology.Topology.{Topology}
-use Rattle.curve.specs.Segments.{verticesIn}
-use Rattle.answers.specs.Answers.{isAccepted, refused, accepted}
+use Rattle.curve.specs.Segments.{vertices_in}
+use Rattle.answers.specs.Answers.{is_accepted, refused, accepted}
 use Rattle.answers.proofs.FirstOf.{accepted-by, all-permitted}
-use Rattle.descriptions.specs.Descriptions.{topologyOf}
-use Rattle.descriptions.specs.Refusals.{shapeTests, ShapePermitted, shape_of}
+use Rattle.descriptions.specs.Descriptions.{topology_of}
+use Rattle.descriptions.specs.Refusals.{shape_tests, ShapePermitted, shape_of}
 use Rattle.descriptions.specs.declared.description.Description.{Description}
 use Rattle.bodies.specs.Bodies.{drawable}
 
 module _ (d : Description) (c : List Float) (room : ℕ) where
   abbrev N : ℕ
-  N = verticesIn c
+  N = vertices_in c
 
   abbrev enough : Bool
-  enough = fits (vertexCount (topologyOf d N)) room
+  enough = fits (vertex_count (topology_of d N)) room
 
   -- the body that was accepted is the description's
-  pub same_count : {body : Topology} → accepted body ≡ shape_of d N → vertexCount body ≡ vertexCount (topologyOf d N)
-  same_count shape = ap vertexCount (accepted-by (shapeTests d N) (topologyOf d N) shape).0
+  pub same_count : {body : Topology} → accepted body ≡ shape_of d N → vertex_count body ≡ vertex_count (topology_of d N)
+  same_count shape = ap vertex_count (accepted-by (shape_tests d N) (topology_of d N) shape).0
 
   -- of an accepted shape, the room decides
-  pub room-decides : {body : Topology} {r : Bool} → length c % 3 ≡ 0 → accepted body ≡ shape_of d N → r ≡ fits (vertexCount body) room → r ≡ drawable d c room
+  pub room-decides : {body : Topology} {r : Bool} → length c % 3 ≡ 0 → accepted body ≡ shape_of d N → r ≡ fits (vertex_count body) room → r ≡ drawable d c room
   unfolding drawable
   room-decides whole shape is =
       is
       ∙ ap (λ (k : ℕ). fits k room) (same_count shape)
-      ∙ sym (λ j. eq-eqb (length c % 3) 0 whole j && (isAccepted (sym shape j) && enough))
+      ∙ sym (λ j. eq-eqb (length c % 3) 0 whole j && (is_accepted (sym shape j) && enough))
 
   pub not-whole : (length c % 3 ≡ 0 → ⊥) → drawable d c room ≡ false
   unfolding drawable
-  not-whole odd = λ j. ne_eqb (length c % 3) 0 odd j && (isAccepted (shape_of d N) && enough)
+  not-whole odd = λ j. ne_eqb (length c % 3) 0 odd j && (is_accepted (shape_of d N) && enough)
 
   pub not-shaped : {number : ℕ} → length c % 3 ≡ 0 → refused number ≡ shape_of d N → drawable d c room ≡ false
   unfolding drawable
-  not-shaped whole shape = λ j. eq-eqb (length c % 3) 0 whole j && (isAccepted (sym shape j) && enough)
+  not-shaped whole shape = λ j. eq-eqb (length c % 3) 0 whole j && (is_accepted (sym shape j) && enough)
 
-  tests : drawable d c room ≡ true → (isAccepted (shape_of d N) ≡ true) × (enough ≡ true)
+  tests : drawable d c room ≡ true → (is_accepted (shape_of d N) ≡ true) × (enough ≡ true)
   unfolding drawable
   tests h =
-      let shaped = isAccepted (shape_of d N) in
+      let shaped = is_accepted (shape_of d N) in
       both_true shaped enough (both_true (eqb (length c % 3) 0) (shaped && enough) h).1
 
   -- what is drawn has a permitted shape, and room
   pub drawn-shape : drawable d c room ≡ true → ShapePermitted d N
-  drawn-shape h = all-permitted (shapeTests d N) (topologyOf d N) (tests h).0
+  drawn-shape h = all-permitted (shape_tests d N) (topology_of d N) (tests h).0
 
-  pub drawn-room : drawable d c room ≡ true → 3 * vertexCount (topologyOf d N) ≤ room
-  drawn-room h = (fits-bounds (vertexCount (topologyOf d N)) room (tests h).1).1
+  pub drawn-room : drawable d c room ≡ true → 3 * vertex_count (topology_of d N) ≤ room
+  drawn-room h = (fits-bounds (vertex_count (topology_of d N)) room (tests h).1).1

@@ -10,10 +10,10 @@ use Rattle.descriptions.specs.declared.description.Description.{Description}
 use Rattle.descriptions.specs.declared.description.Description.TheVariants.{Ribbon, Tube, Capsule}
 use Rattle.descriptions.specs.declared.description.Description.TheVariants.{Torus, ClosedCylinder, SeamlessTorus}
 use Rattle.twists.specs.declared.twist.Twist.{Twist}
-use Rattle.bodies.specs.Bodies.{twistFinite, BestTwist, marked}
+use Rattle.bodies.specs.Bodies.{twist_finite, BestTwist, marked}
 
 pub record Untwisted (c : List Float) (d : Description) : Type 0 where
-  pub finite : twistFinite d c ≡ true
+  pub finite : twist_finite d c ≡ true
   pub best : (k : Twist) → BestTwist d c k
   pub whole : marked d c ≡ d
 

@@ -4,13 +4,13 @@ use Rattle.bodies.specs.declared.work.Work.{Work}
 use Rattle.bodies.specs.declared.work.Work.TheVariants.{CheckFolds, Write, WriteUnlessFolded}
 
 -- whether the curve may fold (13)
-abbrev pub isLenient : Work → Bool
-isLenient CheckFolds = false
-isLenient Write = true
-isLenient WriteUnlessFolded = false
+abbrev pub is_lenient : Work → Bool
+is_lenient CheckFolds = false
+is_lenient Write = true
+is_lenient WriteUnlessFolded = false
 
 -- whether the vertices are written
-abbrev pub isWriting : Work → Bool
-isWriting CheckFolds = false
-isWriting Write = true
-isWriting WriteUnlessFolded = true
+abbrev pub is_writing : Work → Bool
+is_writing CheckFolds = false
+is_writing Write = true
+is_writing WriteUnlessFolded = true

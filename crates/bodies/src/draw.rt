@@ -1,12 +1,12 @@
 ghost use Rattle.std.specs.Prelude.{◌≡◌, true, ◌&&◌, ◌||◌, ◌*◌, ◌/◌, ◌≤◌, length};
 ghost use Rattle.laws.specs.Overwrite.{overwrite, placed};
-ghost use Rattle.kinds.specs.Kinds.{vertexCount};
-ghost use Rattle.curve.specs.Checks.{noFoldIn};
-ghost use Rattle.curve.specs.Segments.{directionsOf};
-ghost use Rattle.descriptions.specs.Descriptions.{curveChain, segmentCount, cornersOf, topologyOf};
-ghost use Rattle.descriptions.specs.Refusals.{verticesPermitted, ShapePermitted, curveFoldsPermitted};
-ghost use Rattle.bodies.specs.Bodies.{drawnOf};
-ghost use Rattle.bodies.specs.Work.{isLenient, isWriting};
+ghost use Rattle.kinds.specs.Kinds.{vertex_count};
+ghost use Rattle.curve.specs.Checks.{no_fold_in};
+ghost use Rattle.curve.specs.Segments.{directions_of};
+ghost use Rattle.descriptions.specs.Descriptions.{curve_chain, segment_count, corners_of, topology_of};
+ghost use Rattle.descriptions.specs.Refusals.{vertices_permitted, ShapePermitted, curve_folds_permitted};
+ghost use Rattle.bodies.specs.Bodies.{drawn_of};
+ghost use Rattle.bodies.specs.Work.{is_lenient, is_writing};
 
 use crate::vertices::fill;
 use crate::work::Work;
@@ -23,11 +23,11 @@ const FEW_DIRECTION_FLOATS: usize = 768;
 // Fills the table of the directions of a permitted curve's segments. A body fills it once: the
 // check for folds (13) and the vertices both read it.
 fn fill_table(description: Description, curve: &[f32], directions: &mut [f32])
-    requires vertices_permitted { verticesPermitted description (length curve.now / 3) ≡ true }
-    requires directions_room { segmentCount description (length curve.now / 3) * 3 ≤ length directions.old }
-    ensures { let count = segmentCount description (length curve.now / 3) in
+    requires vertices_permitted { vertices_permitted description (length curve.now / 3) ≡ true }
+    requires directions_room { segment_count description (length curve.now / 3) * 3 ≤ length directions.old }
+    ensures { let count = segment_count description (length curve.now / 3) in
         directions.new
-        ≡ overwrite 0 (directionsOf (curveChain description) count curve.now) directions.old }
+        ≡ overwrite 0 (directions_of (curve_chain description) count curve.now) directions.old }
 {
     let count = description.segment_count(curve.len() / 3);
     curve::fill_directions(description.chain(), count, curve, directions);
@@ -36,10 +36,10 @@ fn fill_table(description: Description, curve: &[f32], directions: &mut [f32])
 // Whether a curve of `vertices` vertices passes the check for folds (13): always where the work is
 // lenient, else by the table of its directions.
 fn is_passed(work: Work, description: Description, vertices: usize, directions: &[f32]) -> bool
-    requires { verticesPermitted description vertices ≡ true }
-    ensures { result ≡ isLenient work
-        || noFoldIn (curveChain description) (segmentCount description vertices)
-        (cornersOf description vertices) directions.now }
+    requires { vertices_permitted description vertices ≡ true }
+    ensures { result ≡ is_lenient work
+        || no_fold_in (curve_chain description) (segment_count description vertices)
+        (corners_of description vertices) directions.now }
 {
     if work.is_lenient() {
         return true;
@@ -60,13 +60,13 @@ fn draw_with(
     out: &mut [f32],
 ) -> bool
     requires shape_permitted { ShapePermitted description (length curve.now / 3) }
-    requires directions_room { segmentCount description (length curve.now / 3) * 3 ≤ length directions.old }
-    requires ez_room { segmentCount description (length curve.now / 3) * 3 ≤ length ez.old }
-    requires out_room { isWriting work ≡ true
-        → 3 * vertexCount (topologyOf description (length curve.now / 3)) ≤ length out.old }
-    ensures answer { result ≡ isLenient work || curveFoldsPermitted description curve.now }
+    requires directions_room { segment_count description (length curve.now / 3) * 3 ≤ length directions.old }
+    requires ez_room { segment_count description (length curve.now / 3) * 3 ≤ length ez.old }
+    requires out_room { is_writing work ≡ true
+        → 3 * vertex_count (topology_of description (length curve.now / 3)) ≤ length out.old }
+    ensures answer { result ≡ is_lenient work || curve_folds_permitted description curve.now }
     ensures out_after { out.new
-        ≡ placed (result && isWriting work) (drawnOf description curve.now) out.old }
+        ≡ placed (result && is_writing work) (drawn_of description curve.now) out.old }
 {
     fill_table(description, curve, directions);
     if !is_passed(work, description, curve.len() / 3, directions) {
@@ -81,11 +81,11 @@ fn draw_with(
 // Does the same with scratch space of its own.
 pub(crate) fn draw(work: Work, description: Description, curve: &[f32], out: &mut [f32]) -> bool
     requires shape_permitted { ShapePermitted description (length curve.now / 3) }
-    requires out_room { isWriting work ≡ true
-        → 3 * vertexCount (topologyOf description (length curve.now / 3)) ≤ length out.old }
-    ensures answer { result ≡ isLenient work || curveFoldsPermitted description curve.now }
+    requires out_room { is_writing work ≡ true
+        → 3 * vertex_count (topology_of description (length curve.now / 3)) ≤ length out.old }
+    ensures answer { result ≡ is_lenient work || curve_folds_permitted description curve.now }
     ensures out_after { out.new
-        ≡ placed (result && isWriting work) (drawnOf description curve.now) out.old }
+        ≡ placed (result && is_writing work) (drawn_of description curve.now) out.old }
 {
     if curve.len() <= FEW_DIRECTION_FLOATS {
         let mut directions = [0.0f32; FEW_DIRECTION_FLOATS];

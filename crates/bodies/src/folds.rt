@@ -1,10 +1,10 @@
 ghost use Rattle.std.specs.Prelude.{◌≡◌, ◌*◌, ◌/◌, ◌≤◌, length};
 ghost use Rattle.laws.specs.Overwrite.{placed};
-ghost use Rattle.kinds.specs.Kinds.{vertexCount};
-ghost use Rattle.descriptions.specs.Answers.{verdictAnswer};
-ghost use Rattle.descriptions.specs.Descriptions.{topologyOf};
-ghost use Rattle.descriptions.specs.Refusals.{ShapePermitted, curveFoldsPermitted, checkedOf};
-ghost use Rattle.bodies.specs.Bodies.{drawnOf};
+ghost use Rattle.kinds.specs.Kinds.{vertex_count};
+ghost use Rattle.descriptions.specs.Answers.{verdict_answer};
+ghost use Rattle.descriptions.specs.Descriptions.{topology_of};
+ghost use Rattle.descriptions.specs.Refusals.{ShapePermitted, curve_folds_permitted, checked_of};
+ghost use Rattle.bodies.specs.Bodies.{drawn_of};
 
 use crate::draw::draw;
 use crate::work::Work;
@@ -14,7 +14,7 @@ use descriptions::{Description, Verdict};
 // Whether the curve of a body of a permitted shape passes the check for folds (13).
 pub fn is_without_fold(description: Description, curve: &[f32]) -> bool
     requires { ShapePermitted description (length curve.now / 3) }
-    ensures { result ≡ curveFoldsPermitted description curve.now }
+    ensures { result ≡ curve_folds_permitted description curve.now }
 {
     let mut nothing = [0.0f32; 1];
     draw(Work::CheckFolds, description, curve, &mut nothing)
@@ -24,9 +24,9 @@ pub fn is_without_fold(description: Description, curve: &[f32]) -> bool
 // the front of `out` if it passes, and answers whether it does.
 pub fn write_unless_folded(description: Description, curve: &[f32], out: &mut [f32]) -> bool
     requires shape_permitted { ShapePermitted description (length curve.now / 3) }
-    requires out_room { 3 * vertexCount (topologyOf description (length curve.now / 3)) ≤ length out.old }
-    ensures answer { result ≡ curveFoldsPermitted description curve.now }
-    ensures out_after { out.new ≡ placed result (drawnOf description curve.now) out.old }
+    requires out_room { 3 * vertex_count (topology_of description (length curve.now / 3)) ≤ length out.old }
+    ensures answer { result ≡ curve_folds_permitted description curve.now }
+    ensures out_after { out.new ≡ placed result (drawn_of description curve.now) out.old }
 {
     draw(Work::WriteUnlessFolded, description, curve, out)
 }
@@ -35,7 +35,7 @@ pub fn write_unless_folded(description: Description, curve: &[f32], out: &mut [f
 // longitudes or layers (21), sizes (22), a curve that is not finite (11), segments (12) and folds
 // (13), in this order. Answers the first refusal, or the body by its numbers.
 pub fn check(description: Description, curve: &[f32]) -> Verdict
-    ensures { verdictAnswer result ≡ checkedOf description curve.now }
+    ensures { verdict_answer result ≡ checked_of description curve.now }
 {
     match description.check_segments(curve) {
         Verdict::Refused(why) => Verdict::Refused(why),

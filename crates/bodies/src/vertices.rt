@@ -1,9 +1,9 @@
 ghost use Rattle.std.specs.Prelude.{◌≡◌, ◌*◌, ◌/◌, ◌≤◌, length};
 ghost use Rattle.laws.specs.Overwrite.{overwrite, placed};
-ghost use Rattle.kinds.specs.Kinds.{vertexCount};
-ghost use Rattle.descriptions.specs.Descriptions.{segmentCount, topologyOf};
+ghost use Rattle.kinds.specs.Kinds.{vertex_count};
+ghost use Rattle.descriptions.specs.Descriptions.{segment_count, topology_of};
 ghost use Rattle.descriptions.specs.Refusals.{ShapePermitted};
-ghost use Rattle.bodies.specs.Bodies.{drawnOf, drawable, CurveDirections};
+ghost use Rattle.bodies.specs.Bodies.{drawn_of, drawable, CurveDirections};
 
 use crate::draw::draw;
 use crate::work::Work;
@@ -26,10 +26,10 @@ pub(crate) fn fill(
     out: &mut [f32],
 )
     requires shape_permitted { ShapePermitted description (length curve.now / 3) }
-    requires out_room { 3 * vertexCount (topologyOf description (length curve.now / 3)) ≤ length out.old }
+    requires out_room { 3 * vertex_count (topology_of description (length curve.now / 3)) ≤ length out.old }
     requires curve_directions { CurveDirections description curve.now directions.now }
-    requires ez_room { segmentCount description (length curve.now / 3) * 3 ≤ length ez.old }
-    ensures { out.new ≡ overwrite 0 (drawnOf description curve.now) out.old }
+    requires ez_room { segment_count description (length curve.now / 3) * 3 ≤ length ez.old }
+    ensures { out.new ≡ overwrite 0 (drawn_of description curve.now) out.old }
 {
     match description {
         Description::Ribbon { width } => { to_trimesh3_ribbon(out, curve, directions, width) },
@@ -70,7 +70,7 @@ pub(crate) fn fill(
 // writes nothing.
 pub fn write_vertices(description: Description, curve: &[f32], out: &mut [f32]) -> bool
     ensures answer { result ≡ drawable description curve.now (length out.old) }
-    ensures out_after { out.new ≡ placed result (drawnOf description curve.now) out.old }
+    ensures out_after { out.new ≡ placed result (drawn_of description curve.now) out.old }
 {
     if curve.len() % 3 != 0 {
         return false;

@@ -1,5 +1,5 @@
 ghost use Rattle.std.specs.Prelude.{◌≡◌};
-ghost use Rattle.bodies.specs.Work.{isLenient, isWriting};
+ghost use Rattle.bodies.specs.Work.{is_lenient, is_writing};
 
 // What is done with a curve once the directions of its segments are known.
 #[derive(Clone, Copy)]
@@ -12,7 +12,7 @@ pub(crate) enum Work {
 impl Work {
     // Whether the curve may fold (13).
     pub(crate) fn is_lenient(self) -> bool
-        ensures { result ≡ isLenient self }
+        ensures { result ≡ is_lenient self }
     {
         match self {
             Work::CheckFolds => false,
@@ -23,7 +23,7 @@ impl Work {
 
     // Whether the vertices are written.
     pub(crate) fn is_writing(self) -> bool
-        ensures { result ≡ isWriting self }
+        ensures { result ≡ is_writing self }
     {
         match self {
             Work::CheckFolds => false,

@@ -6,31 +6,31 @@ use Rattle.std.specs.Float.{nan}
 use Rattle.laws.specs.Blocks.{blocks}
 use Rattle.surface.specs.Grid.{after_of}
 use Rattle.surface.specs.declared.grid.Chain.{Chain}
-use Rattle.vec3.specs.Points.{coordinates, differenceOf, normalised}
+use Rattle.vec3.specs.Points.{coordinates, difference_of, normalised}
 use Rattle.vec3.specs.declared.points.Point.{Point}
 
 -- how many whole vertices a curve has
-abbrev pub verticesIn : List Float → ℕ
-verticesIn c = length c / 3
+abbrev pub vertices_in : List Float → ℕ
+vertices_in c = length c / 3
 
 -- the point whose coordinates begin at index p
-abbrev pub pointAt : List Float → ℕ → Point
-pointAt c p = record { x = get_or c p nan; y = get_or c (p + 1) nan; z = get_or c (p + 2) nan }
+abbrev pub point_at : List Float → ℕ → Point
+point_at c p = record { x = get_or c p nan; y = get_or c (p + 1) nan; z = get_or c (p + 2) nan }
 
 -- Vertex k: "Vertices are three f32 each" ('The shared set'). Where the curve has no vertex k, of
 -- which the paper says nothing, NaNs.
-unfoldable pub vertexOf : List Float → ℕ → Point
-vertexOf c k = cond (ltb k (verticesIn c)) (pointAt c (3 * k)) (record { x = nan; y = nan; z = nan })
+unfoldable pub vertex_of : List Float → ℕ → Point
+vertex_of c k = cond (ltb k (vertices_in c)) (point_at c (3 * k)) (record { x = nan; y = nan; z = nan })
 
 -- Segment k of `count`: the difference from vertex k to the next one. For the closing segment that
 -- is vertex 0.
-unfoldable pub segmentOf : Chain → ℕ → List Float → ℕ → Point
-segmentOf chain count c k = differenceOf (vertexOf c (after_of chain count k)) (vertexOf c k)
+unfoldable pub segment_of : Chain → ℕ → List Float → ℕ → Point
+segment_of chain count c k = difference_of (vertex_of c (after_of chain count k)) (vertex_of c k)
 
 -- the segment normalised
-unfoldable pub segmentDirection : Chain → ℕ → List Float → ℕ → Point
-segmentDirection chain count c k = normalised (segmentOf chain count c k)
+unfoldable pub segment_direction : Chain → ℕ → List Float → ℕ → Point
+segment_direction chain count c k = normalised (segment_of chain count c k)
 
 -- The table of the directions: each segment's, one after the other. A body's are worked out once.
-unfoldable pub directionsOf : Chain → ℕ → List Float → List Float
-directionsOf chain count c = blocks count (λ k. coordinates (segmentDirection chain count c k))
+unfoldable pub directions_of : Chain → ℕ → List Float → List Float
+directions_of chain count c = blocks count (λ k. coordinates (segment_direction chain count c k))

@@ -1,5 +1,5 @@
 ghost use Rattle.std.specs.Prelude.{◌≡◌};
-ghost use Rattle.curve.specs.Framex.{carriedOn, carriedTo};
+ghost use Rattle.curve.specs.Framex.{carried_on, carried_to};
 
 use vec3::{Frame, Point};
 
@@ -13,9 +13,9 @@ pub struct Carried {
 
 impl Carried {
     // What is carried on the first segment, whose direction is `u`.
-    #[tactic(auto, unfolding(crate::specs::Framex::carriedOn))]
+    #[tactic(auto, unfolding(crate::specs::Framex::carried_on))]
     pub fn first(u: Point) -> Carried
-        ensures { result ≡ carriedOn u }
+        ensures { result ≡ carried_on u }
     {
         Carried {
             frame: Frame::beside(u),
@@ -24,9 +24,9 @@ impl Carried {
     }
 
     // The same on the next segment, whose direction is `w`.
-    #[tactic(auto, unfolding(crate::specs::Framex::carriedTo))]
+    #[tactic(auto, unfolding(crate::specs::Framex::carried_to))]
     pub fn next(self, w: Point) -> Carried
-        ensures { result ≡ carriedTo self w }
+        ensures { result ≡ carried_to self w }
     {
         Carried {
             frame: self.frame.transport(self.direction, w),

@@ -1,6 +1,6 @@
 ghost use Rattle.std.specs.Prelude.{◌≡◌, ◌+◌, ◌≤◌, length};
 ghost use Rattle.surface.specs.Grid.{after_of};
-ghost use Rattle.curve.specs.Segments.{pointAt, vertexOf, segmentOf, segmentDirection};
+ghost use Rattle.curve.specs.Segments.{point_at, vertex_of, segment_of, segment_direction};
 
 use surface::Chain;
 use vec3::Point;
@@ -8,7 +8,7 @@ use vec3::Point;
 // Reads the point whose coordinates begin at index `at`.
 pub fn point(floats: &[f32], at: usize) -> Point
     requires { at + 3 ≤ length floats.now }
-    ensures { result ≡ pointAt floats.now at }
+    ensures { result ≡ point_at floats.now at }
 {
     Point {
         x: floats[at],
@@ -18,9 +18,9 @@ pub fn point(floats: &[f32], at: usize) -> Point
 }
 
 // Vertex k, or NaNs if the curve has no vertex k.
-#[tactic(auto, unfolding(crate::specs::Segments::vertexOf))]
+#[tactic(auto, unfolding(crate::specs::Segments::vertex_of))]
 pub fn vertex(curve: &[f32], k: usize) -> Point
-    ensures { result ≡ vertexOf curve.now k }
+    ensures { result ≡ vertex_of curve.now k }
 {
     if k < curve.len() / 3 {
         return point(curve, 3 * k);
@@ -58,17 +58,17 @@ pub(crate) fn end(chain: Chain, count: u16, k: u16) -> usize
 }
 
 // Segment k of `count`, from its first vertex to its last: the difference of the two.
-#[tactic(auto, unfolding(crate::specs::Segments::segmentOf))]
+#[tactic(auto, unfolding(crate::specs::Segments::segment_of))]
 pub fn segment(chain: Chain, count: u16, curve: &[f32], k: u16) -> Point
-    ensures { result ≡ segmentOf chain count curve.now k }
+    ensures { result ≡ segment_of chain count curve.now k }
 {
     vertex(curve, end(chain, count, k)).sub(vertex(curve, k as usize))
 }
 
 // Segment k of `count`, normalised.
-#[tactic(auto, unfolding(crate::specs::Segments::segmentDirection))]
+#[tactic(auto, unfolding(crate::specs::Segments::segment_direction))]
 pub fn direction(chain: Chain, count: u16, curve: &[f32], k: u16) -> Point
-    ensures { result ≡ segmentDirection chain count curve.now k }
+    ensures { result ≡ segment_direction chain count curve.now k }
 {
     segment(chain, count, curve, k).normalize()
 }

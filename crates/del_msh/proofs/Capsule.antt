@@ -11,15 +11,15 @@ use lib.Ieee.{Float, neg}
 use lib.ListN.{length, length-append}
 use Rattle.laws.specs.Overlaps.{overwrite-all}
 use Rattle.surface.specs.declared.caps.End.TheVariants.{Bottom, Top}
-use Rattle.vec3.specs.Points.{coordinates, times, sum_of, differenceOf, scaled}
+use Rattle.vec3.specs.Points.{coordinates, times, sum_of, difference_of, scaled}
 use Rattle.vec3.specs.Turns.{turn_of}
 use Rattle.vec3.specs.declared.points.Point.{Point}
 use Rattle.vec3.specs.declared.turns.Direction.{Direction}
-use Rattle.kinds.specs.Lists.{closedTriangles}
-use Rattle.curve.specs.Segments.{verticesIn}
-use Rattle.rings.specs.Vertices.{bottomPole, topPole, bottomVertex, topVertex, capVertex}
+use Rattle.kinds.specs.Lists.{closed_triangles}
+use Rattle.curve.specs.Segments.{vertices_in}
+use Rattle.rings.specs.Vertices.{bottom_pole, top_pole, bottom_vertex, top_vertex, cap_vertex}
 use Rattle.swept_bodies.specs.Polyline3 as paper
-use Rattle.swept_bodies.specs.Capsule.{capsuleVertices}
+use Rattle.swept_bodies.specs.Capsule.{capsule_vertices}
 use Rattle.swept_bodies.proofs.Parts.{capsule-parts}
 use Rattle.del_msh.specs.Arrays.{minus, Outside, read, one}
 use Rattle.del_msh.specs.DelGeoCore.{TAU, FRAC-PI-2, mul, div, cos, sin}
@@ -28,7 +28,7 @@ use Rattle.del_msh.specs.Polyline3 as rust
 use Rattle.del_msh.specs.Adapted.{chunks, floats}
 use Rattle.del_msh.proofs.Usize.{minus_is}
 use Rattle.del_msh.proofs.Floats.{floats-append}
-use Rattle.del_msh.proofs.Rings.{whole-turn, ringsPoints, length-rings, rings-floats, point-assigned-by-three, last-assigned-by-three, rings-assigned, behind}
+use Rattle.del_msh.proofs.Rings.{whole-turn, rings_points, length-rings, rings-floats, point-assigned-by-three, last-assigned-by-three, rings-assigned, behind}
 use Rattle.del_msh.proofs.ClosedCylinder.{yup-length, yup-triangles}
 use Rattle.del_msh.proofs.OpenFrames.{one_less, vertex, framez-is, ex-at, ey-at}
 use Rattle.del_msh.proofs.Tube.{side, side-is}
@@ -45,7 +45,7 @@ five-parts bottom a b e top = ap (λ (l : List Float). coordinates bottom ++ l) 
     ∙ append_assoc (floats a ++ floats b) (floats e) (coordinates top)
     ∙ append_assoc (floats a) (floats b) (floats e ++ coordinates top))
 
-module _ (outside : Outside) (c : List Float) (m : ℕ) (is : verticesIn c ≡ m + 1) (h : 1 ≤ m) (r : Float) (n L : ℕ) (three : 2 < n) (steps : 3 ≤ 2 * L + m) where
+module _ (outside : Outside) (c : List Float) (m : ℕ) (is : vertices_in c ≡ m + 1) (h : 1 ≤ m) (r : Float) (n L : ℕ) (three : 2 < n) (steps : 3 ≤ 2 * L + m) where
   -- `ndiv_length`
   abbrev M : ℕ
   M = minus outside (length (chunks c)) 1
@@ -68,29 +68,29 @@ module _ (outside : Outside) (c : List Float) (m : ℕ) (is : verticesIn c ≡ m
   layers = let e = segments in minus_is outside (2 * L + M) 2 (2 * L + m - 2) (omega arith)
 
   abbrev bottom : Point
-  bottom = bottomPole (paper.axesOf m c 0) r
+  bottom = bottom_pole (paper.axes_of m c 0) r
 
   abbrev below : ℕ → Direction → Point
-  below = capVertex Bottom (paper.axesOf m c 0) r L
+  below = cap_vertex Bottom (paper.axes_of m c 0) r L
 
   abbrev inner : ℕ → Direction → Point
   inner k = side outside c m is h r n (k + 1)
 
   abbrev above : ℕ → Direction → Point
-  above = capVertex Top (paper.axesOf m c m) r L
+  above = cap_vertex Top (paper.axes_of m c m) r L
 
   abbrev top : Point
-  top = topPole (paper.axesOf m c m) r
+  top = top_pole (paper.axes_of m c m) r
 
-  bottom-is : differenceOf (read outside (chunks c) 0) (scaled (rust.framez outside (chunks c) 0) r) ≡ bottom
-  unfolding bottomPole paper.axesOf
-  bottom-is = λ j. differenceOf (vertex outside c m is h 0 0 (omega arith) refl j) (scaled (framez-is outside c m is h 0 (omega arith) j) r)
+  bottom-is : difference_of (read outside (chunks c) 0) (scaled (rust.framez outside (chunks c) 0) r) ≡ bottom
+  unfolding bottom_pole paper.axes_of
+  bottom-is = λ j. difference_of (vertex outside c m is h 0 0 (omega arith) refl j) (scaled (framez-is outside c m is h 0 (omega arith) j) r)
 
   ez-last : rust.framez outside (chunks c) M ≡ paper.framez m c m
   ez-last = ap (rust.framez outside (chunks c)) segments ∙ framez-is outside c m is h m (omega arith)
 
   top-is : sum_of (read outside (chunks c) M) (scaled (rust.framez outside (chunks c) M) r) ≡ top
-  unfolding topPole paper.axesOf
+  unfolding top_pole paper.axes_of
   top-is = λ j. sum_of (vertex outside c m is h M m (omega arith) segments j) (scaled (ez-last j) r)
 
   abbrev ey : List Point
@@ -106,7 +106,7 @@ module _ (outside : Outside) (c : List Float) (m : ℕ) (is : verticesIn c ≡ m
       let ay = scaled (read outside ey 0) (times (times r (cos t0)) (cos theta)) in
       let ax = scaled (read outside ex 0) (times (times r (cos t0)) (sin theta)) in
       sum_of (sum_of (sum_of (read outside (chunks c) 0) az) ay) ax) ≡ below g (turn_of i n)
-  unfolding cos sin bottomVertex paper.axesOf
+  unfolding cos sin bottom_vertex paper.axes_of
   below-is g i l =
       let first : minus outside L 1 ≡ L - 1 = minus_is outside L 1 (L - 1) (omega arith) in
       let ring : minus outside (minus outside L 1) g ≡ L - 1 - g = ap (λ (k : ℕ). minus outside k g) first ∙ minus_is outside (L - 1) g (L - 1 - g) (omega arith) in
@@ -127,7 +127,7 @@ module _ (outside : Outside) (c : List Float) (m : ℕ) (is : verticesIn c ≡ m
       let ay = scaled (read outside ey M) (times (times r (cos t0)) (cos theta)) in
       let ax = scaled (read outside ex M) (times (times r (cos t0)) (sin theta)) in
       sum_of (sum_of (sum_of (read outside (chunks c) M) az) ax) ay) ≡ above g (turn_of i n)
-  unfolding cos sin topVertex paper.axesOf
+  unfolding cos sin top_vertex paper.axes_of
   above-is g i =
       let p = vertex outside c m is h M m (omega arith) segments in
       let x = ex-at outside c m is h M m (omega arith) segments in
@@ -140,13 +140,13 @@ module _ (outside : Outside) (c : List Float) (m : ℕ) (is : verticesIn c ≡ m
       (scaled (y j) (times (times r (t j).cos) (d j).cos))
 
   abbrev A : List Point
-  A = ringsPoints L below n
+  A = rings_points L below n
 
   abbrev B : ℕ → List Point
-  B k = ringsPoints k inner n
+  B k = rings_points k inner n
 
   abbrev C : List Point
-  C = ringsPoints L above n
+  C = rings_points L above n
 
   abbrev parts : ℕ → List Point
   parts k = (bottom ∷ []) ++ A ++ B k ++ C ++ (top ∷ [])
@@ -186,7 +186,7 @@ module _ (outside : Outside) (c : List Float) (m : ℕ) (is : verticesIn c ≡ m
       (omega (arith, length-append A (B K), length-append (A ++ B K) C))
       ∙ overwrite-all (parts K) t₀ (omega (arith, length-append A (B K), length-append (A ++ B K) C, length-append (A ++ B K ++ C) (top ∷ []))))
 
-  pub capsule-floats : floats (rust.to-trimesh3-capsule outside (chunks c) n L r).1 ≡ capsuleVertices n L r m c
+  pub capsule-floats : floats (rust.to-trimesh3-capsule outside (chunks c) n L r).1 ≡ capsule_vertices n L r m c
   capsule-floats =
       let a = rings-floats L below n in
       let b = rings-floats (m - 1) inner n in
@@ -197,7 +197,7 @@ module _ (outside : Outside) (c : List Float) (m : ℕ) (is : verticesIn c ≡ m
       ∙ (λ j. coordinates bottom ++ (a j ++ (b j ++ (d j ++ coordinates top))))
       ∙ sym (capsule-parts n L r m c h)
 
-  pub capsule-triangles : (rust.to-trimesh3-capsule outside (chunks c) n L r).0 ≡ closedTriangles n (2 * L + m - 2)
+  pub capsule-triangles : (rust.to-trimesh3-capsule outside (chunks c) n L r).0 ≡ closed_triangles n (2 * L + m - 2)
   unfolding rust.to-trimesh3-capsule
   capsule-triangles =
-      rw (lt-ltb 2 n three) (yup-triangles outside one one n S true three (omega (arith, layers)) ∙ ap (closedTriangles n) layers)
+      rw (lt-ltb 2 n three) (yup-triangles outside one one n S true three (omega (arith, layers)) ∙ ap (closed_triangles n) layers)

@@ -12,10 +12,10 @@ use Rattle.vec3.specs.Points.{coordinates, plus, times, over}
 use Rattle.vec3.specs.Turns.{whole}
 use Rattle.vec3.specs.declared.points.Point.{Point}
 use Rattle.vec3.specs.declared.turns.Direction.{Direction}
-use Rattle.rings.specs.Vertices.{levelAt, levelVertex, pole}
-use Rattle.kinds.specs.Lists.{closedTriangles}
+use Rattle.rings.specs.Vertices.{level_at, level_vertex, pole}
+use Rattle.kinds.specs.Lists.{closed_triangles}
 use Rattle.ring_writers.proofs.Lengths.{cylinder-parts}
-use Rattle.ring_writers.specs.ClosedCylinder.{low_of, cylinderVertices}
+use Rattle.ring_writers.specs.ClosedCylinder.{low_of, cylinder_vertices}
 use Rattle.del_msh.specs.Vectors.{vec}
 use Rattle.del_msh.specs.Arrays.{Outside, minus, xyz, zero, one, zeros}
 use Rattle.del_msh.specs.DelGeoCore.{cos, sin}
@@ -25,7 +25,7 @@ use Rattle.del_msh.proofs.Loops.{assigned}
 use Rattle.del_msh.proofs.Floats.{floats-append}
 use Rattle.del_msh.proofs.Usize.{minus_is}
 use Rattle.del_msh.proofs.Topology.{closed-topology}
-use Rattle.del_msh.proofs.Rings.{whole-turn, ringsPoints, length-rings, rings-floats, rings-assigned, behind}
+use Rattle.del_msh.proofs.Rings.{whole-turn, rings_points, length-rings, rings-floats, rings-assigned, behind}
 
 -- `half`, worked out in floats, is 0.5
 half_is : over one (plus one one) ≡ of_bits binary32 0x3F00_0000
@@ -47,16 +47,16 @@ module _ (outside : Outside) (r l : Float) (n S : ℕ) (centred : Bool) (three :
   bottom = pole (low_of centred l)
 
   abbrev vertex : ℕ → Direction → Point
-  vertex = levelVertex r (low_of centred l) l S
+  vertex = level_vertex r (low_of centred l) l S
 
   abbrev rings : List Point
-  rings = ringsPoints (S + 1) vertex n
+  rings = rings_points (S + 1) vertex n
 
   abbrev top : Point
   top = pole (plus (low_of centred l) l)
 
   yup-vertices : (cylinder-closed-end-yup outside r l n S centred).1 ≡ ((bottom ∷ []) ++ rings) ++ (top ∷ [])
-  unfolding cylinder-closed-end-yup levelAt cos sin
+  unfolding cylinder-closed-end-yup level_at cos sin
   yup-vertices =
       let room = n * (S + 1) + 2 in
       let t₀ = vec zeros room in
@@ -78,13 +78,13 @@ module _ (outside : Outside) (r l : Float) (n S : ℕ) (centred : Bool) (three :
   pub yup-length : length (cylinder-closed-end-yup outside r l n S centred).1 ≡ n * (S + 1) + 2
   yup-length = ap length yup-vertices ∙ omega (arith, length-append rings (top ∷ []), length-rings (S + 1) vertex n)
 
-  pub yup-floats : floats (cylinder-closed-end-yup outside r l n S centred).1 ≡ cylinderVertices r l n S centred
+  pub yup-floats : floats (cylinder-closed-end-yup outside r l n S centred).1 ≡ cylinder_vertices r l n S centred
   yup-floats =
       ap floats yup-vertices
       ∙ closed-floats bottom rings top
       ∙ ap (λ (l : List Float). coordinates bottom ++ (l ++ coordinates top)) (rings-floats (S + 1) vertex n)
       ∙ sym (cylinder-parts r l n S centred)
 
-  pub yup-triangles : (cylinder-closed-end-yup outside r l n S centred).0 ≡ closedTriangles n S
+  pub yup-triangles : (cylinder-closed-end-yup outside r l n S centred).0 ≡ closed_triangles n S
   unfolding cylinder-closed-end-yup
   yup-triangles = closed-topology outside S n

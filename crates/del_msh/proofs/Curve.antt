@@ -7,11 +7,11 @@ use native.Mathlib.Omega.{arith}
 use borrow.Author.Tests.{lt-ltb}
 use lib.Ieee.{Float, nan}
 use lib.ListN.{length, get_or}
-use Rattle.curve.specs.Segments.{verticesIn, vertexOf}
+use Rattle.curve.specs.Segments.{vertices_in, vertex_of}
 use Rattle.del_msh.specs.Arrays.{Outside, read, xyz}
 use Rattle.del_msh.specs.Adapted.{chunks}
 
-pub length-chunks : (c : List Float) → length (chunks c) ≡ verticesIn c
+pub length-chunks : (c : List Float) → length (chunks c) ≡ vertices_in c
 length-chunks [] = refl
 length-chunks (x ∷ []) = refl
 length-chunks (x ∷ y ∷ []) = refl
@@ -32,8 +32,8 @@ chunk outside (x ∷ y ∷ z ∷ rest) (suc k) h =
     ∙ (λ j. xyz (get_or c (three j) nan) (get_or c (four j) nan) (get_or c (five j) nan))
 
 -- `vtx2xyz[k]`, under another name of k
-pub vertex-at : (outside : Outside) (c : List Float) (k k' : ℕ) → k' < verticesIn c → k ≡ k' → read outside (chunks c) k ≡ vertexOf c k'
-unfolding vertexOf
+pub vertex-at : (outside : Outside) (c : List Float) (k k' : ℕ) → k' < vertices_in c → k ≡ k' → read outside (chunks c) k ≡ vertex_of c k'
+unfolding vertex_of
 vertex-at outside c k k' h same =
     let within : k < length (chunks c) = omega (arith, length-chunks c) in
-    rw (lt-ltb k' (verticesIn c) h) (chunk outside c k within ∙ (λ j. xyz (get_or c (3 * same j) nan) (get_or c (3 * same j + 1) nan) (get_or c (3 * same j + 2) nan)))
+    rw (lt-ltb k' (vertices_in c) h) (chunk outside c k within ∙ (λ j. xyz (get_or c (3 * same j) nan) (get_or c (3 * same j + 1) nan) (get_or c (3 * same j + 2) nan)))

@@ -14,10 +14,10 @@ use Rattle.laws.specs.Overwrite.{overwrite}
 use Rattle.laws.specs.Overlaps.{overwrite-all}
 use Rattle.laws.specs.Blocks.{blocks-cong}
 use Rattle.surface.specs.declared.grid.Chain.TheVariants.{Open}
-use Rattle.vec3.specs.Points.{sum_of, differenceOf, cross_of, normalised}
-use Rattle.vec3.specs.Frames.{firstFrame, transported}
+use Rattle.vec3.specs.Points.{sum_of, difference_of, cross_of, normalised}
+use Rattle.vec3.specs.Frames.{first_frame, transported}
 use Rattle.vec3.specs.declared.points.Point.{Point}
-use Rattle.curve.specs.Segments.{verticesIn, vertexOf, segmentOf, segmentDirection}
+use Rattle.curve.specs.Segments.{vertices_in, vertex_of, segment_of, segment_direction}
 use Rattle.curve.specs.Framex.{frame_of}
 use Rattle.swept_bodies.specs.Polyline3 as paper
 use Rattle.del_msh.specs.Vectors.{vec, change}
@@ -28,10 +28,10 @@ use Rattle.del_msh.proofs.Usize.{minus_is}
 use Rattle.del_msh.proofs.Loops.{assigned, fills}
 use Rattle.del_msh.proofs.Rings.{behind}
 use Rattle.del_msh.proofs.Curve.{length-chunks, vertex-at}
-use Rattle.del_msh.proofs.Frames.{points_of, length-points, point_at, written_at, frame, frames-carried}
+use Rattle.del_msh.proofs.Frames.{points_of, length-points, read-points_of, written_at, frame, frames-carried}
 
 -- a curve of m segments, at least one
-module _ (outside : Outside) (c : List Float) (m : ℕ) (is : verticesIn c ≡ m + 1) (h : 1 ≤ m) where
+module _ (outside : Outside) (c : List Float) (m : ℕ) (is : vertices_in c ≡ m + 1) (h : 1 ≤ m) where
   abbrev pub curve : List Point
   curve = chunks c
 
@@ -45,14 +45,14 @@ module _ (outside : Outside) (c : List Float) (m : ℕ) (is : verticesIn c ≡ m
   two-less : minus outside (length curve) 2 ≡ m - 1
   two-less = minus_is outside (length curve) 2 (m - 1) (omega (arith, sized))
 
-  pub vertex : (k k' : ℕ) → k' < m + 1 → k ≡ k' → read outside curve k ≡ vertexOf c k'
+  pub vertex : (k k' : ℕ) → k' < m + 1 → k ≡ k' → read outside curve k ≡ vertex_of c k'
   vertex k k' l same = vertex-at outside c k k' (omega arith) same
 
   pub framez-is : (g : ℕ) → g < m + 1 → rust.framez outside curve g ≡ paper.framez m c g
-  unfolding rust.framez paper.framez segmentDirection segmentOf
+  unfolding rust.framez paper.framez segment_direction segment_of
   framez-is zero l =
       rw (lt-ltb 0 (length curve) (omega (arith, sized)))
-      (λ j. normalised (differenceOf (vertex 1 1 (omega arith) refl j) (vertex 0 0 (omega arith) refl j)))
+      (λ j. normalised (difference_of (vertex 1 1 (omega arith) refl j) (vertex 0 0 (omega arith) refl j)))
   framez-is (suc g) l =
       let long = sized in
       let back : m ≡ m - 1 + 1 = omega arith in
@@ -62,14 +62,14 @@ module _ (outside : Outside) (c : List Float) (m : ℕ) (is : verticesIn c ≡ m
       ⊎_elim
       (λ (last : suc g ≡ m).
       rw (within, not_first, eq-eqb (suc g) (minus outside (length curve) 1) (last ∙ sym one_less), eq-eqb (suc g) m last)
-      (λ j. normalised (differenceOf
+      (λ j. normalised (difference_of
       (vertex (minus outside (length curve) 1) (m - 1 + 1) (omega arith) (one_less ∙ back) j)
       (vertex (minus outside (length curve) 2) (m - 1) (omega arith) two-less j))))
       (λ (inner : suc g < m).
       rw (within, not_first, ne_eqb (suc g) (minus outside (length curve) 1) (λ e. omega (arith, e ∙ one_less)), ne_eqb (suc g) m (λ e. omega arith))
       (λ j. normalised (sum_of
-      (normalised (differenceOf (vertex (suc g) (suc g - 1 + 1) (omega arith) (omega arith) j) (vertex (minus outside (suc g) 1) (suc g - 1) (omega arith) here j)))
-      (normalised (differenceOf (vertex (suc g + 1) (suc g + 1) (omega arith) refl j) (vertex (suc g) (suc g) l refl j))))))
+      (normalised (difference_of (vertex (suc g) (suc g - 1 + 1) (omega arith) (omega arith) j) (vertex (minus outside (suc g) 1) (suc g - 1) (omega arith) here j)))
+      (normalised (difference_of (vertex (suc g + 1) (suc g + 1) (omega arith) refl j) (vertex (suc g) (suc g) l refl j))))))
       (eq-or-lt_of_le (omega arith))
 
   -- frames: of each segment, and the last one copied
@@ -100,20 +100,20 @@ module _ (outside : Outside) (c : List Float) (m : ℕ) (is : verticesIn c ≡ m
       ∙ overwrite-all (points_of (m + 1) ex) t₀ (omega (arith, length-points (m + 1) ex))
 
   framex-is : rust.vtx2framex outside curve ≡ points_of (m + 1) ex
-  unfolding rust.vtx2framex frame_of segmentDirection segmentOf
+  unfolding rust.vtx2framex frame_of segment_direction segment_of
   framex-is =
       let last : minus outside (m + 1) 1 ≡ m = minus_is outside (m + 1) 1 m refl in
       rw (sized, last) (last-copied (minus outside (m + 1) 2) (minus_is outside (m + 1) 2 (m - 1) (omega arith)) _
       (frames-carried outside Open m c (m + 1) m _ _ h (omega arith)
-      (λ j. (firstFrame (differenceOf (vertex 1 1 (omega arith) refl j) (vertex 0 0 (omega arith) refl j))).ex)
+      (λ j. (first_frame (difference_of (vertex 1 1 (omega arith) refl j) (vertex 0 0 (omega arith) refl j))).ex)
       (λ i l u t j.
       let before : minus outside i 1 ≡ i - 1 = minus_is outside i 1 (i - 1) (omega arith) in
       change t i (λ old. (transported (record { ex = read outside t (before j) })
-      (normalised (differenceOf (vertex i (i - 1 + 1) (omega arith) (omega arith) j) (vertex (minus outside i 1) (i - 1) (omega arith) before j)))
-      (normalised (differenceOf (vertex (i + 1) (i + 1) (omega arith) refl j) (vertex i i (omega arith) refl j)))).ex))))
+      (normalised (difference_of (vertex i (i - 1 + 1) (omega arith) (omega arith) j) (vertex (minus outside i 1) (i - 1) (omega arith) before j)))
+      (normalised (difference_of (vertex (i + 1) (i + 1) (omega arith) refl j) (vertex i i (omega arith) refl j)))).ex))))
 
   pub ex-at : (k g : ℕ) → g < m + 1 → k ≡ g → read outside (rust.vtx2framex outside curve) k ≡ ex g
-  ex-at k g l same = (λ j. read outside (framex-is j) (same j)) ∙ point_at outside (m + 1) ex g l
+  ex-at k g l same = (λ j. read outside (framex-is j) (same j)) ∙ read-points_of outside (m + 1) ex g l
 
   framey-is : rust.vtx2framey outside curve (rust.vtx2framex outside curve) ≡ points_of (m + 1) (paper.vtx2framey m c)
   unfolding rust.vtx2framey paper.vtx2framey
@@ -127,4 +127,4 @@ module _ (outside : Outside) (c : List Float) (m : ℕ) (is : verticesIn c ≡ m
       ∙ overwrite-all (points_of room (paper.vtx2framey m c)) t₀ (omega (arith, length-points room (paper.vtx2framey m c))))
 
   pub ey-at : (k g : ℕ) → g < m + 1 → k ≡ g → read outside (rust.vtx2framey outside curve (rust.vtx2framex outside curve)) k ≡ paper.vtx2framey m c g
-  ey-at k g l same = (λ j. read outside (framey-is j) (same j)) ∙ point_at outside (m + 1) (paper.vtx2framey m c) g l
+  ey-at k g l same = (λ j. read outside (framey-is j) (same j)) ∙ read-points_of outside (m + 1) (paper.vtx2framey m c) g l

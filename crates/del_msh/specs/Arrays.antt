@@ -22,8 +22,8 @@ one = of_bits binary32 0x3F80_0000
 abbrev pub zeros : Point
 zeros = xyz zero zero zero
 
-abbrev pub zeroTriangle : Triangle
-zeroTriangle = triangle 0 0 0
+abbrev pub zero_triangle : Triangle
+zero_triangle = triangle 0 0 0
 
 -- What a read past a list's end would give, and a difference below zero or a quotient by zero.
 -- The Rust panics there; of these nothing is known.
@@ -46,14 +46,14 @@ abbrev pub remainder : Outside → ℕ → ℕ → ℕ
 remainder outside a b = cond (leb 1 b) (a % b) outside.number
 
 -- `xs[i][0] = v`, `xs[i][1] = v` and `xs[i][2] = v` of points
-abbrev pub assignX : List Point → ℕ → Float → List Point
-assignX xs i v = change xs i (λ p. xyz v p.y p.z)
+abbrev pub assign_x : List Point → ℕ → Float → List Point
+assign_x xs i v = change xs i (λ p. xyz v p.y p.z)
 
-abbrev pub assignY : List Point → ℕ → Float → List Point
-assignY xs i v = change xs i (λ p. xyz p.x v p.z)
+abbrev pub assign_y : List Point → ℕ → Float → List Point
+assign_y xs i v = change xs i (λ p. xyz p.x v p.z)
 
-abbrev pub assignZ : List Point → ℕ → Float → List Point
-assignZ xs i v = change xs i (λ p. xyz p.x p.y v)
+abbrev pub assign_z : List Point → ℕ → Float → List Point
+assign_z xs i v = change xs i (λ p. xyz p.x p.y v)
 
 -- the same of triangles
 abbrev pub first : ℕ → Triangle → Triangle

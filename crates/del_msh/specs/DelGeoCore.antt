@@ -4,9 +4,9 @@
 -- tests/src/del_msh/del_geo_core.rs. Definitions only.
 use Rattle.std.specs.Prelude.{Bool, false, cond, ℕ, ◌*◌, Float}
 use Rattle.std.specs.Float.Ieee.{neg}
-use Rattle.vec3.specs.Points.{sum_of, differenceOf, scaled, dotOf, cross_of, normalised}
+use Rattle.vec3.specs.Points.{sum_of, difference_of, scaled, dot_of, cross_of, normalised}
 use Rattle.vec3.specs.Turns.{turn_of}
-use Rattle.vec3.specs.Frames.{firstFrame, transported}
+use Rattle.vec3.specs.Frames.{first_frame, transported}
 use Rattle.vec3.specs.declared.points.Point.{Point}
 
 -- An angle is k/n turn: `two * pi` of the source is `TAU`, a whole turn, and `pi * half` is
@@ -41,13 +41,13 @@ abbrev pub add : Point → Point → Point
 add = sum_of
 
 abbrev pub sub : Point → Point → Point
-sub = differenceOf
+sub = difference_of
 
 abbrev pub scale : Point → Float → Point
 scale = scaled
 
 abbrev pub dot : Point → Point → Float
-dot = dotOf
+dot = dot_of
 
 abbrev pub cross : Point → Point → Point
 cross = cross_of
@@ -57,7 +57,7 @@ normalize = normalised
 
 -- "First frame of direction v". Nobody asks for the second axis.
 abbrev pub basis-xy-from-basis-z : Point → Point
-basis-xy-from-basis-z vec-z = (firstFrame vec-z).ex
+basis-xy-from-basis-z vec-z = (first_frame vec-z).ex
 
 -- mat3_col_major: a rotation from one direction to another, both "segment directions normalised",
 -- and its application, the transport step

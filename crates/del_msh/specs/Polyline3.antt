@@ -7,7 +7,7 @@ use Rattle.surface.specs.Triangles.{triangle}
 use Rattle.vec3.specs.Points.{times}
 use Rattle.vec3.specs.declared.points.Point.{Point}
 use Rattle.del_msh.specs.Vectors.{vec, len, assert, assign, if, for, ◌‥◌}
-use Rattle.del_msh.specs.Arrays.{Outside, read, minus, quotient, one, zeros, zeroTriangle, assignX, assignY, assignZ}
+use Rattle.del_msh.specs.Arrays.{Outside, read, minus, quotient, one, zeros, zero_triangle, assign_x, assign_y, assign_z}
 use Rattle.del_msh.specs.DelGeoCore.{TAU, FRAC-PI-2, mul, div, cos, sin}
 use Rattle.del_msh.specs.DelGeoCore.{add, sub, scale, cross, normalize, mult-vec}
 use Rattle.del_msh.specs.DelGeoCore.{basis-xy-from-basis-z, minimum-rotation-matrix}
@@ -136,9 +136,9 @@ module _ (outside : Outside) where
       let p0 = vtxl2xyz at 0 in
       let ez = framez vtxl2xyz 0 in
       let q = sub p0 (scale ez r) in
-      let vtx2xyz = assignX vtx2xyz 0 q.x in
-      let vtx2xyz = assignY vtx2xyz 0 q.y in
-      let vtx2xyz = assignZ vtx2xyz 0 q.z in
+      let vtx2xyz = assign_x vtx2xyz 0 q.x in
+      let vtx2xyz = assign_y vtx2xyz 0 q.y in
+      let vtx2xyz = assign_z vtx2xyz 0 q.z in
       let vtx2xyz = for (
         0 ‥ ndiv-longtitude,
         λ ir vtx2xyz.
@@ -156,9 +156,9 @@ module _ (outside : Outside) where
                   let ay = scale ey (times c0 (cos theta)) in
                   let ax = scale ex (times c0 (sin theta)) in
                   let q = add (add (add p0 az) ay) ax in
-                  let vtx2xyz = assignX vtx2xyz (1 + ir * ndiv-circum + ic) q.x in
-                  let vtx2xyz = assignY vtx2xyz (1 + ir * ndiv-circum + ic) q.y in
-                  assignZ vtx2xyz (1 + ir * ndiv-circum + ic) q.z,
+                  let vtx2xyz = assign_x vtx2xyz (1 + ir * ndiv-circum + ic) q.x in
+                  let vtx2xyz = assign_y vtx2xyz (1 + ir * ndiv-circum + ic) q.y in
+                  assign_z vtx2xyz (1 + ir * ndiv-circum + ic) q.z,
             ) vtx2xyz,
       ) vtx2xyz in
       let vtx2xyz = for (
@@ -174,9 +174,9 @@ module _ (outside : Outside) where
                   let ay = scale ey (times r (cos theta)) in
                   let ax = scale ex (times r (sin theta)) in
                   let q = add (add p0 ay) ax in
-                  let vtx2xyz = assignX vtx2xyz (1 + (il + ndiv-longtitude) * ndiv-circum + ic) q.x in
-                  let vtx2xyz = assignY vtx2xyz (1 + (il + ndiv-longtitude) * ndiv-circum + ic) q.y in
-                  assignZ vtx2xyz (1 + (il + ndiv-longtitude) * ndiv-circum + ic) q.z,
+                  let vtx2xyz = assign_x vtx2xyz (1 + (il + ndiv-longtitude) * ndiv-circum + ic) q.x in
+                  let vtx2xyz = assign_y vtx2xyz (1 + (il + ndiv-longtitude) * ndiv-circum + ic) q.y in
+                  assign_z vtx2xyz (1 + (il + ndiv-longtitude) * ndiv-circum + ic) q.z,
             ) vtx2xyz,
       ) vtx2xyz in
       let vtx2xyz = for (
@@ -197,10 +197,10 @@ module _ (outside : Outside) where
                   let ax = scale ex (times c0 (sin theta)) in
                   let q = add (add (add p0 az) ax) ay in
                   let vtx2xyz =
-                      assignX vtx2xyz (1 + (ir + ndiv-length + ndiv-longtitude -? 1) * ndiv-circum + ic) q.x in
+                      assign_x vtx2xyz (1 + (ir + ndiv-length + ndiv-longtitude -? 1) * ndiv-circum + ic) q.x in
                   let vtx2xyz =
-                      assignY vtx2xyz (1 + (ir + ndiv-length + ndiv-longtitude -? 1) * ndiv-circum + ic) q.y in
-                  assignZ vtx2xyz (1 + (ir + ndiv-length + ndiv-longtitude -? 1) * ndiv-circum + ic) q.z,
+                      assign_y vtx2xyz (1 + (ir + ndiv-length + ndiv-longtitude -? 1) * ndiv-circum + ic) q.y in
+                  assign_z vtx2xyz (1 + (ir + ndiv-length + ndiv-longtitude -? 1) * ndiv-circum + ic) q.z,
             ) vtx2xyz,
       ) vtx2xyz in
       -- North Pole
@@ -208,9 +208,9 @@ module _ (outside : Outside) where
       let ez = framez vtxl2xyz (num-vtxl -? 1) in
       let q = add p0 (scale ez r) in
       let np = len vtx2xyz in
-      let vtx2xyz = assignX vtx2xyz (np -? 1) q.x in
-      let vtx2xyz = assignY vtx2xyz (np -? 1) q.y in
-      let vtx2xyz = assignZ vtx2xyz (np -? 1) q.z in
+      let vtx2xyz = assign_x vtx2xyz (np -? 1) q.x in
+      let vtx2xyz = assign_y vtx2xyz (np -? 1) q.y in
+      let vtx2xyz = assign_z vtx2xyz (np -? 1) q.z in
       (tri2vtx, vtx2xyz)
 
   -- line 332
@@ -225,7 +225,7 @@ module _ (outside : Outside) where
             assign vtx2xyz (i-vtxl * 2 + 1) (add (vtxl2xyz at i-vtxl) (scale (vtxl2framex at i-vtxl) width)),
       ) vtx2xyz in
       let num-tri = (num-vtxl -? 1) * 2 in
-      let tri2vtx = vec zeroTriangle num-tri in
+      let tri2vtx = vec zero_triangle num-tri in
       let tri2vtx = for (
         0 ‥ num-vtxl -? 1,
         λ i-vtxl tri2vtx.

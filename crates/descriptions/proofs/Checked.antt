@@ -7,20 +7,20 @@ use Rattle.surface.specs.declared.grid.Chain.{Chain}
 use Rattle.surface.specs.declared.grid.Chain.TheVariants as chain
 use Rattle.kinds.specs.declared.topology.Topology.{Topology}
 use Rattle.answers.specs.Answers.{Test, AllPermitted, refused, accepted, first_of, test}
-use Rattle.descriptions.specs.Descriptions.{curveChain, segmentCount, cornersOf, topologyOf}
-use Rattle.descriptions.specs.Refusals.{curveFoldsPermitted, segmentTests, segmentsCheckedOf, checkedOf}
+use Rattle.descriptions.specs.Descriptions.{curve_chain, segment_count, corners_of, topology_of}
+use Rattle.descriptions.specs.Refusals.{curve_folds_permitted, segment_tests, segments_checked_of, checked_of}
 use Rattle.descriptions.specs.declared.description.Description.{Description}
 use Rattle.descriptions.specs.declared.description.Description.TheVariants.{Ribbon, Tube, Capsule, Torus}
 use Rattle.descriptions.specs.declared.description.Description.TheVariants.{ClosedCylinder, SeamlessTorus}
 use Rattle.answers.proofs.FirstOf.{accepted-by, passed-by}
 
 -- each lies between two segments of the curve
-within : (d : Description) (N : ℕ) → CornersWithin (curveChain d) (segmentCount d N) (cornersOf d N)
+within : (d : Description) (N : ℕ) → CornersWithin (curve_chain d) (segment_count d N) (corners_of d N)
 within d N = of d where
   open-curve : CornersWithin chain.Open (N - 1) (N - 1 - 1)
   open-curve = inner-corners chain.Open (N - 1) (N - 1 - 1) (omega arith)
 
-  of : (d : Description) → CornersWithin (curveChain d) (segmentCount d N) (cornersOf d N)
+  of : (d : Description) → CornersWithin (curve_chain d) (segment_count d N) (corners_of d N)
   of (Ribbon w) = open-curve
   of (Tube n r) = open-curve
   of (Capsule n L r) = open-curve
@@ -30,7 +30,7 @@ within d N = of d where
 
 -- the same where the curve's chain and numbers were answered
 pub corners-within : (d : Description) (N : ℕ) {k : Chain} {m corners : ℕ}
-    → k ≡ curveChain d → m ≡ segmentCount d N → corners ≡ cornersOf d N → CornersWithin k m corners
+    → k ≡ curve_chain d → m ≡ segment_count d N → corners ≡ corners_of d N → CornersWithin k m corners
 corners-within d N p q r = rw (p, q, r) (within d N)
 
 -- a test that comes after others which were passed has the last word
@@ -41,9 +41,9 @@ last-test ts k {p} a passed is =
 
 -- a body that passed the tests before 13 is accepted or refused by 13
 pub fold-answer : (d : Description) (c : List Float) {body : Topology} {r : Bool}
-    → accepted body ≡ segmentsCheckedOf d c → r ≡ curveFoldsPermitted d c
-    → cond r (accepted body) (refused 13) ≡ checkedOf d c
+    → accepted body ≡ segments_checked_of d c → r ≡ curve_folds_permitted d c
+    → cond r (accepted body) (refused 13) ≡ checked_of d c
 fold-answer d c {r = r} passed folds =
-    let told = accepted-by (segmentTests d c) (topologyOf d (length c / 3)) passed in
+    let told = accepted-by (segment_tests d c) (topology_of d (length c / 3)) passed in
     ap (λ (t : Topology). cond r (accepted t) (refused 13)) told.0
-    ∙ last-test (segmentTests d c) 13 (topologyOf d (length c / 3)) told.1 folds
+    ∙ last-test (segment_tests d c) 13 (topology_of d (length c / 3)) told.1 folds

@@ -1,7 +1,7 @@
 -- The kind numbers of a record and of an entry are the same. Assumes nothing.
 use Rattle.std.proofs.Common.{◌≡◌, refl, sym, ap, ◌∙◌, Bool, true, false, cond, ℕ, arith, eqb-true, eqb, Float}
 use Rattle.kinds.specs.Limits.{between}
-use Rattle.descriptions.specs.KindNumbers.{kindNumber, lastKind, describedOf}
+use Rattle.descriptions.specs.KindNumbers.{kind_number, last_kind, described_of}
 use Rattle.descriptions.specs.declared.description.Description.{Description}
 use Rattle.descriptions.specs.declared.description.Description.TheVariants.{Ribbon, Tube, Capsule, Torus}
 use Rattle.descriptions.specs.declared.description.Description.TheVariants.{ClosedCylinder, SeamlessTorus}
@@ -10,18 +10,18 @@ use Rattle.descriptions.specs.declared.kind.Described.TheVariants.{Known, Unknow
 
 -- x, whose number is k, is told where the kind is k; where it is not, one of the others is
 told-by : (kind k : ℕ) (b : Bool) (x : Description) (others : Described) {d : Description}
-    → eqb kind k ≡ b → kindNumber x ≡ k → (others ≡ Known d → kindNumber d ≡ kind)
-    → cond b (Known x) others ≡ Known d → kindNumber d ≡ kind
+    → eqb kind k ≡ b → kind_number x ≡ k → (others ≡ Known d → kind_number d ≡ kind)
+    → cond b (Known x) others ≡ Known d → kind_number d ≡ kind
 told-by kind k true x others {d} e is next h =
     let same : d ≡ x = cc in
-    ap kindNumber same ∙ is ∙ sym (eqb-true kind k e)
+    ap kind_number same ∙ is ∙ sym (eqb-true kind k e)
 told-by kind k false x others e is next h = next h
 
 -- a description made from a kind's number has that number
 pub kind-told : (kind n L : ℕ) (centred : Bool) (size length : Float) {d : Description}
-    → describedOf kind n L centred size length ≡ Known d
-    → kindNumber d ≡ kind
-unfolding describedOf
+    → described_of kind n L centred size length ≡ Known d
+    → kind_number d ≡ kind
+unfolding described_of
 kind-told kind n L centred size length =
     told-by kind 1 (eqb kind 1) (Ribbon size) _ refl refl
     (told-by kind 2 (eqb kind 2) (Tube n size) _ refl refl
@@ -32,7 +32,7 @@ kind-told kind n L centred size length =
     (λ h. let z : ◌≡◌ {A = ℕ} 0 1 = cc in absurd (omega arith)))))))
 
 -- every description's is one that a sound entry may have
-pub kind-between : (d : Description) → between 1 lastKind (kindNumber d) ≡ true
+pub kind-between : (d : Description) → between 1 last_kind (kind_number d) ≡ true
 kind-between (Ribbon w) = refl
 kind-between (Tube n r) = refl
 kind-between (Capsule n L r) = refl

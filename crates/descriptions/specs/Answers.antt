@@ -8,15 +8,15 @@ use Rattle.descriptions.specs.declared.verdict.Verdict.TheVariants as verdict
 use Rattle.descriptions.specs.declared.verdict.Counted.{Counted}
 use Rattle.descriptions.specs.declared.verdict.Counted.TheVariants as counted
 
-abbrev pub verdictAnswer : Verdict → Answer Topology
-verdictAnswer (verdict.Accepted body) = accepted body
-verdictAnswer (verdict.Refused why) = refused (number_of why)
+abbrev pub verdict_answer : Verdict → Answer Topology
+verdict_answer (verdict.Accepted body) = accepted body
+verdict_answer (verdict.Refused why) = refused (number_of why)
 
 -- the two counts, of vertices and of triangles
 pub record Counts : Type 0 where
   pub vertices : ℕ
   pub triangles : ℕ
 
-abbrev pub countedAnswer : Counted → Answer Counts
-countedAnswer (counted.Counts v t) = accepted (record { vertices = v; triangles = t })
-countedAnswer (counted.Refused why) = refused (number_of why)
+abbrev pub counted_answer : Counted → Answer Counts
+counted_answer (counted.Counts v t) = accepted (record { vertices = v; triangles = t })
+counted_answer (counted.Refused why) = refused (number_of why)

@@ -12,43 +12,43 @@ use Rattle.descriptions.specs.declared.description.Description.TheVariants.{Clos
 
 -- The curve of a torus, with a seam or without, is closed, the others' are open ('Frames and
 -- vertices'). That of a closed cylinder has no vertex.
-abbrev pub curveChain : Description → Chain
-curveChain (Ribbon w) = chain.Open
-curveChain (Tube n r) = chain.Open
-curveChain (Capsule n L r) = chain.Open
-curveChain (Torus n r) = chain.Closed
-curveChain (ClosedCylinder n S centred r l) = chain.Open
-curveChain (SeamlessTorus n r) = chain.Closed
+abbrev pub curve_chain : Description → Chain
+curve_chain (Ribbon w) = chain.Open
+curve_chain (Tube n r) = chain.Open
+curve_chain (Capsule n L r) = chain.Open
+curve_chain (Torus n r) = chain.Closed
+curve_chain (ClosedCylinder n S centred r l) = chain.Open
+curve_chain (SeamlessTorus n r) = chain.Closed
 
 -- How many segments a curve of N vertices has: m with m + 1 = N where it is open, N where it is
 -- closed, "with the torus's closing one" (of 12).
-abbrev pub segmentsOf : Chain → ℕ → ℕ
-segmentsOf chain.Open N = N - 1
-segmentsOf chain.Closed N = N
+abbrev pub segments_of : Chain → ℕ → ℕ
+segments_of chain.Open N = N - 1
+segments_of chain.Closed N = N
 
-abbrev pub segmentCount : Description → ℕ → ℕ
-segmentCount d N = segmentsOf (curveChain d) N
+abbrev pub segment_count : Description → ℕ → ℕ
+segment_count d N = segments_of (curve_chain d) N
 
 -- "Refusal 13 covers vertex 0 for kind 6" (document 02, No. 1): the vertex where a loop closes
-abbrev pub startChecked : Description → Bool
-startChecked (Ribbon w) = false
-startChecked (Tube n r) = false
-startChecked (Capsule n L r) = false
-startChecked (Torus n r) = false
-startChecked (ClosedCylinder n S centred r l) = false
-startChecked (SeamlessTorus n r) = true
+abbrev pub start_checked : Description → Bool
+start_checked (Ribbon w) = false
+start_checked (Tube n r) = false
+start_checked (Capsule n L r) = false
+start_checked (Torus n r) = false
+start_checked (ClosedCylinder n S centred r l) = false
+start_checked (SeamlessTorus n r) = true
 
 -- How many corners a fold (13) is looked for at: those "at vertices 1 to m − 1, for a torus 1 to
 -- N − 1". Corner k stands at the end of segment k, so these are all but that of the last segment.
 -- On a loop that one stands at vertex 0, and counts where vertex 0 is checked.
-abbrev pub cornersOf : Description → ℕ → ℕ
-cornersOf d N = cond (startChecked d) (segmentCount d N) (segmentCount d N - 1)
+abbrev pub corners_of : Description → ℕ → ℕ
+corners_of d N = cond (start_checked d) (segment_count d N) (segment_count d N - 1)
 
 -- The body by its numbers: all that its counts and its triangles need ('Triangle lists').
-abbrev pub topologyOf : Description → ℕ → Topology
-topologyOf (Ribbon w) N = topology.Ribbon (record { segments = N - 1 })
-topologyOf (Tube n r) N = topology.Tube (record { divisions = n; segments = N - 1 })
-topologyOf (Capsule n L r) N = topology.Capsule (record { divisions = n; longitudes = L; segments = N - 1 })
-topologyOf (Torus n r) N = topology.Torus (record { divisions = n; vertices = N })
-topologyOf (ClosedCylinder n S centred r l) N = topology.ClosedCylinder (record { divisions = n; layers = S })
-topologyOf (SeamlessTorus n r) N = topology.Torus (record { divisions = n; vertices = N })
+abbrev pub topology_of : Description → ℕ → Topology
+topology_of (Ribbon w) N = topology.Ribbon (record { segments = N - 1 })
+topology_of (Tube n r) N = topology.Tube (record { divisions = n; segments = N - 1 })
+topology_of (Capsule n L r) N = topology.Capsule (record { divisions = n; longitudes = L; segments = N - 1 })
+topology_of (Torus n r) N = topology.Torus (record { divisions = n; vertices = N })
+topology_of (ClosedCylinder n S centred r l) N = topology.ClosedCylinder (record { divisions = n; layers = S })
+topology_of (SeamlessTorus n r) N = topology.Torus (record { divisions = n; vertices = N })

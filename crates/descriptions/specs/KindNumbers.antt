@@ -9,32 +9,32 @@ use Rattle.descriptions.specs.declared.kind.Described.TheVariants.{Known, Unknow
 
 -- "kind (1 ribbon, 2 tube, 3 capsule, 4 torus, 5 closed cylinder)", and "kind 6, a torus with its
 -- end twist spread along the loop" (document 02, No. 1)
-abbrev pub kindNumber : Description → ℕ
-kindNumber (Ribbon w) = 1
-kindNumber (Tube n r) = 2
-kindNumber (Capsule n L r) = 3
-kindNumber (Torus n r) = 4
-kindNumber (ClosedCylinder n S centred r l) = 5
-kindNumber (SeamlessTorus n r) = 6
+abbrev pub kind_number : Description → ℕ
+kind_number (Ribbon w) = 1
+kind_number (Tube n r) = 2
+kind_number (Capsule n L r) = 3
+kind_number (Torus n r) = 4
+kind_number (ClosedCylinder n S centred r l) = 5
+kind_number (SeamlessTorus n r) = 6
 
 -- the last of them: no "kind outside 1 to 5" ('Refused, and through whom', of 1), and "Refusal 1
 -- and the program admit kind 6" (document 02, No. 1)
-abbrev pub lastKind : ℕ
-lastKind = 6
+abbrev pub last_kind : ℕ
+last_kind = 6
 
 -- "n (0 for a ribbon)"
-abbrev pub divisionsOf : Description → ℕ
-divisionsOf (Ribbon w) = 0
-divisionsOf (Tube n r) = n
-divisionsOf (Capsule n L r) = n
-divisionsOf (Torus n r) = n
-divisionsOf (ClosedCylinder n S centred r l) = n
-divisionsOf (SeamlessTorus n r) = n
+abbrev pub divisions_of : Description → ℕ
+divisions_of (Ribbon w) = 0
+divisions_of (Tube n r) = n
+divisions_of (Capsule n L r) = n
+divisions_of (Torus n r) = n
+divisions_of (ClosedCylinder n S centred r l) = n
+divisions_of (SeamlessTorus n r) = n
 
 -- What a record describes: "kind, n, L (layers S for kind 5), centre flag .., size bits, length
 -- bits .. fields a kind lacks are ignored".
-unfoldable pub describedOf : ℕ → ℕ → ℕ → Bool → Float → Float → Described
-describedOf kind n L centred size length =
+unfoldable pub described_of : ℕ → ℕ → ℕ → Bool → Float → Float → Described
+described_of kind n L centred size length =
     cond (eqb kind 1) (Known (Ribbon size))
     (cond (eqb kind 2) (Known (Tube n size))
     (cond (eqb kind 3) (Known (Capsule n L size))

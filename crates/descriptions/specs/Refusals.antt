@@ -6,153 +6,153 @@ use Rattle.std.specs.Prelude.{Bool, true, ◌&&◌, List, [], ◌∷◌, ◌++�
 use Rattle.std.specs.Float.{binary32}
 use Rattle.std.specs.Float.Ieee.{of_bits, lt}
 use Rattle.std.specs.Float.Ieee.Scale.{finite}
-use Rattle.float32.specs.Scan.{allFinite}
-use Rattle.kinds.specs.Limits.{between, longitudesPermitted, layersPermitted, leastLoop, mostLoop, leastRound, mostRound}
-use Rattle.kinds.specs.Kinds.{vertexCount, triangleCount}
+use Rattle.float32.specs.Scan.{all_finite}
+use Rattle.kinds.specs.Limits.{between, longitudes_permitted, layers_permitted, least_loop, most_loop, least_round, most_round}
+use Rattle.kinds.specs.Kinds.{vertex_count, triangle_count}
 use Rattle.kinds.specs.declared.topology.Topology.{Topology}
-use Rattle.curve.specs.Checks.{segmentsPermitted, foldsPermitted}
+use Rattle.curve.specs.Checks.{segments_permitted, folds_permitted}
 use Rattle.answers.specs.Answers.{Answer, Test, test, AllPermitted, first_of}
 use Rattle.descriptions.specs.Answers.{Counts}
-use Rattle.descriptions.specs.KindNumbers.{divisionsOf}
-use Rattle.descriptions.specs.Descriptions.{curveChain, segmentCount, cornersOf, topologyOf}
+use Rattle.descriptions.specs.KindNumbers.{divisions_of}
+use Rattle.descriptions.specs.Descriptions.{curve_chain, segment_count, corners_of, topology_of}
 use Rattle.descriptions.specs.declared.description.Description.{Description}
 use Rattle.descriptions.specs.declared.description.Description.TheVariants.{Ribbon, Tube, Capsule, Torus}
 use Rattle.descriptions.specs.declared.description.Description.TheVariants.{ClosedCylinder, SeamlessTorus}
 
 -- 10 of an open curve: "vertices outside 2 to 4,096"
-abbrev pub leastOpen : ℕ
-leastOpen = 2
+abbrev pub least_open : ℕ
+least_open = 2
 
-abbrev pub mostOpen : ℕ
-mostOpen = 4096
+abbrev pub most_open : ℕ
+most_open = 4096
 
-abbrev pub openVerticesPermitted : ℕ → Bool
-openVerticesPermitted N = between leastOpen mostOpen N
+abbrev pub open_vertices_permitted : ℕ → Bool
+open_vertices_permitted N = between least_open most_open N
 
 -- 10 by the kind: "vertices outside 2 to 4,096 (torus 3 to 4,096, closed cylinder 0)"
-abbrev pub leastVertices : Description → ℕ
-leastVertices (Ribbon w) = leastOpen
-leastVertices (Tube n r) = leastOpen
-leastVertices (Capsule n L r) = leastOpen
-leastVertices (Torus n r) = leastLoop
-leastVertices (ClosedCylinder n S centred r l) = 0
-leastVertices (SeamlessTorus n r) = leastLoop
+abbrev pub least_vertices : Description → ℕ
+least_vertices (Ribbon w) = least_open
+least_vertices (Tube n r) = least_open
+least_vertices (Capsule n L r) = least_open
+least_vertices (Torus n r) = least_loop
+least_vertices (ClosedCylinder n S centred r l) = 0
+least_vertices (SeamlessTorus n r) = least_loop
 
-abbrev pub mostVertices : Description → ℕ
-mostVertices (Ribbon w) = mostOpen
-mostVertices (Tube n r) = mostOpen
-mostVertices (Capsule n L r) = mostOpen
-mostVertices (Torus n r) = mostLoop
-mostVertices (ClosedCylinder n S centred r l) = 0
-mostVertices (SeamlessTorus n r) = mostLoop
+abbrev pub most_vertices : Description → ℕ
+most_vertices (Ribbon w) = most_open
+most_vertices (Tube n r) = most_open
+most_vertices (Capsule n L r) = most_open
+most_vertices (Torus n r) = most_loop
+most_vertices (ClosedCylinder n S centred r l) = 0
+most_vertices (SeamlessTorus n r) = most_loop
 
-abbrev pub verticesPermitted : Description → ℕ → Bool
-verticesPermitted d N = between (leastVertices d) (mostVertices d) N
+abbrev pub vertices_permitted : Description → ℕ → Bool
+vertices_permitted d N = between (least_vertices d) (most_vertices d) N
 
 -- 10 of a curve: no "length not a multiple of 3"
-abbrev pub wholeVertices : List Float → Bool
-wholeVertices c = eqb (length c % 3) 0
+abbrev pub whole_vertices : List Float → Bool
+whole_vertices c = eqb (length c % 3) 0
 
 -- all of 10, for an open curve without a description and for the curve of a description
-abbrev pub openCurvePermitted : List Float → Bool
-openCurvePermitted c = wholeVertices c && openVerticesPermitted (length c / 3)
+abbrev pub open_curve_permitted : List Float → Bool
+open_curve_permitted c = whole_vertices c && open_vertices_permitted (length c / 3)
 
-abbrev pub curvePermitted : Description → List Float → Bool
-curvePermitted d c = wholeVertices c && verticesPermitted d (length c / 3)
+abbrev pub curve_permitted : Description → List Float → Bool
+curve_permitted d c = whole_vertices c && vertices_permitted d (length c / 3)
 
 -- 12 and 13, over the curve's segments and the corners that 13 covers
-abbrev pub curveSegmentsPermitted : Description → List Float → Bool
-curveSegmentsPermitted d c = segmentsPermitted (curveChain d) (segmentCount d (length c / 3)) c
+abbrev pub curve_segments_permitted : Description → List Float → Bool
+curve_segments_permitted d c = segments_permitted (curve_chain d) (segment_count d (length c / 3)) c
 
-abbrev pub curveFoldsPermitted : Description → List Float → Bool
-curveFoldsPermitted d c =
+abbrev pub curve_folds_permitted : Description → List Float → Bool
+curve_folds_permitted d c =
     let N = length c / 3 in
-    foldsPermitted (curveChain d) (segmentCount d N) (cornersOf d N) c
+    folds_permitted (curve_chain d) (segment_count d N) (corners_of d N) c
 
 -- 20: "n outside 3 to 256 (not ribbon)", whose n is 0
-abbrev pub leastDivisions : Description → ℕ
-leastDivisions (Ribbon w) = 0
-leastDivisions (Tube n r) = leastRound
-leastDivisions (Capsule n L r) = leastRound
-leastDivisions (Torus n r) = leastRound
-leastDivisions (ClosedCylinder n S centred r l) = leastRound
-leastDivisions (SeamlessTorus n r) = leastRound
+abbrev pub least_divisions : Description → ℕ
+least_divisions (Ribbon w) = 0
+least_divisions (Tube n r) = least_round
+least_divisions (Capsule n L r) = least_round
+least_divisions (Torus n r) = least_round
+least_divisions (ClosedCylinder n S centred r l) = least_round
+least_divisions (SeamlessTorus n r) = least_round
 
-abbrev pub mostDivisions : Description → ℕ
-mostDivisions (Ribbon w) = 0
-mostDivisions (Tube n r) = mostRound
-mostDivisions (Capsule n L r) = mostRound
-mostDivisions (Torus n r) = mostRound
-mostDivisions (ClosedCylinder n S centred r l) = mostRound
-mostDivisions (SeamlessTorus n r) = mostRound
+abbrev pub most_divisions : Description → ℕ
+most_divisions (Ribbon w) = 0
+most_divisions (Tube n r) = most_round
+most_divisions (Capsule n L r) = most_round
+most_divisions (Torus n r) = most_round
+most_divisions (ClosedCylinder n S centred r l) = most_round
+most_divisions (SeamlessTorus n r) = most_round
 
-abbrev pub roundPermitted : Description → Bool
-roundPermitted d = between (leastDivisions d) (mostDivisions d) (divisionsOf d)
+abbrev pub round_permitted : Description → Bool
+round_permitted d = between (least_divisions d) (most_divisions d) (divisions_of d)
 
 -- 21: "L above 256 or 2L + m below 3; layers S outside 1 to 4,096"
-abbrev pub lengthwisePermitted : Description → ℕ → Bool
-lengthwisePermitted (Ribbon w) N = true
-lengthwisePermitted (Tube n r) N = true
-lengthwisePermitted (Capsule n L r) N = longitudesPermitted L (N - 1)
-lengthwisePermitted (Torus n r) N = true
-lengthwisePermitted (ClosedCylinder n S centred r l) N = layersPermitted S
-lengthwisePermitted (SeamlessTorus n r) N = true
+abbrev pub lengthwise_permitted : Description → ℕ → Bool
+lengthwise_permitted (Ribbon w) N = true
+lengthwise_permitted (Tube n r) N = true
+lengthwise_permitted (Capsule n L r) N = longitudes_permitted L (N - 1)
+lengthwise_permitted (Torus n r) N = true
+lengthwise_permitted (ClosedCylinder n S centred r l) N = layers_permitted S
+lengthwise_permitted (SeamlessTorus n r) N = true
 
 -- 22: "radius, width or length not finite or not above 0"
-unfoldable pub sizePermitted : Float → Bool
-sizePermitted x = finite x && lt (of_bits binary32 0) x
+unfoldable pub size_permitted : Float → Bool
+size_permitted x = finite x && lt (of_bits binary32 0) x
 
-abbrev pub sizesPermitted : Description → Bool
-sizesPermitted (Ribbon w) = sizePermitted w
-sizesPermitted (Tube n r) = sizePermitted r
-sizesPermitted (Capsule n L r) = sizePermitted r
-sizesPermitted (Torus n r) = sizePermitted r
-sizesPermitted (ClosedCylinder n S centred r l) = sizePermitted r && sizePermitted l
-sizesPermitted (SeamlessTorus n r) = sizePermitted r
+abbrev pub sizes_permitted : Description → Bool
+sizes_permitted (Ribbon w) = size_permitted w
+sizes_permitted (Tube n r) = size_permitted r
+sizes_permitted (Capsule n L r) = size_permitted r
+sizes_permitted (Torus n r) = size_permitted r
+sizes_permitted (ClosedCylinder n S centred r l) = size_permitted r && size_permitted l
+sizes_permitted (SeamlessTorus n r) = size_permitted r
 
 -- 10, 20, 21 of a number of curve vertices
-abbrev pub shapeTests : Description → ℕ → List Test
-shapeTests d N = test 10 (verticesPermitted d N) ∷ test 20 (roundPermitted d) ∷ test 21 (lengthwisePermitted d N) ∷ []
+abbrev pub shape_tests : Description → ℕ → List Test
+shape_tests d N = test 10 (vertices_permitted d N) ∷ test 20 (round_permitted d) ∷ test 21 (lengthwise_permitted d N) ∷ []
 
 abbrev pub ShapePermitted : Description → ℕ → Type 0
-ShapePermitted d N = AllPermitted (shapeTests d N)
+ShapePermitted d N = AllPermitted (shape_tests d N)
 
 abbrev pub shape_of : Description → ℕ → Answer Topology
-shape_of d N = first_of (shapeTests d N) (topologyOf d N)
+shape_of d N = first_of (shape_tests d N) (topology_of d N)
 
 -- "Counts takes the description and curve vertex count: 10, 20, 21, 22."
-abbrev pub countsTests : Description → ℕ → List Test
-countsTests d N = shapeTests d N ++ (test 22 (sizesPermitted d) ∷ [])
+abbrev pub counts_tests : Description → ℕ → List Test
+counts_tests d N = shape_tests d N ++ (test 22 (sizes_permitted d) ∷ [])
 
-abbrev pub bodyCounts : Topology → Counts
-bodyCounts body = record { vertices = vertexCount body; triangles = triangleCount body }
+abbrev pub body_counts : Topology → Counts
+body_counts body = record { vertices = vertex_count body; triangles = triangle_count body }
 
-abbrev pub countsOf : Description → ℕ → Answer Counts
-countsOf d N = first_of (countsTests d N) (bodyCounts (topologyOf d N))
+abbrev pub counts_of : Description → ℕ → Answer Counts
+counts_of d N = first_of (counts_tests d N) (body_counts (topology_of d N))
 
--- 22, 11 and 12, as they follow one another in `checkedTests`
+-- 22, 11 and 12, as they follow one another in `checked_tests`
 abbrev pub float_tests : Description → List Float → List Test
-float_tests d c = test 22 (sizesPermitted d) ∷ test 11 (allFinite c) ∷ test 12 (curveSegmentsPermitted d c) ∷ []
+float_tests d c = test 22 (sizes_permitted d) ∷ test 11 (all_finite c) ∷ test 12 (curve_segments_permitted d c) ∷ []
 
-abbrev pub floatsOf : Description → Topology → List Float → Answer Topology
-floatsOf d body c = first_of (float_tests d c) body
+abbrev pub floats_of : Description → Topology → List Float → Answer Topology
+floats_of d body c = first_of (float_tests d c) body
 
--- `checkedTests` without its end: all that is tried before a segment's direction is worked out
-abbrev pub segmentTests : Description → List Float → List Test
-segmentTests d c =
+-- `checked_tests` without its end: all that is tried before a segment's direction is worked out
+abbrev pub segment_tests : Description → List Float → List Test
+segment_tests d c =
     let N = length c / 3 in
-    test 10 (curvePermitted d c) ∷ test 20 (roundPermitted d) ∷ test 21 (lengthwisePermitted d N) ∷ float_tests d c
+    test 10 (curve_permitted d c) ∷ test 20 (round_permitted d) ∷ test 21 (lengthwise_permitted d N) ∷ float_tests d c
 
-abbrev pub segmentsCheckedOf : Description → List Float → Answer Topology
-segmentsCheckedOf d c = first_of (segmentTests d c) (topologyOf d (length c / 3))
+abbrev pub segments_checked_of : Description → List Float → Answer Topology
+segments_checked_of d c = first_of (segment_tests d c) (topology_of d (length c / 3))
 
 -- its end: a fold (13)
-abbrev pub foldTests : Description → List Float → List Test
-foldTests d c = test 13 (curveFoldsPermitted d c) ∷ []
+abbrev pub fold_tests : Description → List Float → List Test
+fold_tests d c = test 13 (curve_folds_permitted d c) ∷ []
 
 -- "Add's order: 1, 10, 20, 21, 22, 11, 12, 13, 2, 3, 4, 23", as far as no table is needed.
-abbrev pub checkedTests : Description → List Float → List Test
-checkedTests d c = segmentTests d c ++ foldTests d c
+abbrev pub checked_tests : Description → List Float → List Test
+checked_tests d c = segment_tests d c ++ fold_tests d c
 
-abbrev pub checkedOf : Description → List Float → Answer Topology
-checkedOf d c = first_of (checkedTests d c) (topologyOf d (length c / 3))
+abbrev pub checked_of : Description → List Float → Answer Topology
+checked_of d c = first_of (checked_tests d c) (topology_of d (length c / 3))

@@ -1,6 +1,6 @@
 ghost use Rattle.std.specs.Prelude.{◌≡◌, true, ◌/◌, length};
-ghost use Rattle.descriptions.specs.Answers.{verdictAnswer};
-ghost use Rattle.descriptions.specs.Refusals.{verticesPermitted, floatsOf, segmentsCheckedOf};
+ghost use Rattle.descriptions.specs.Answers.{verdict_answer};
+ghost use Rattle.descriptions.specs.Refusals.{vertices_permitted, floats_of, segments_checked_of};
 
 use crate::description::Description;
 use crate::verdict::Verdict;
@@ -11,8 +11,8 @@ impl Description {
     // Checks the sizes (22), that the curve is finite (11) and its segments (12), and answers the
     // first refusal or `body`. The number of the curve's vertices is permitted (10).
     fn check_floats(self, body: Topology, curve: &[f32]) -> Verdict
-        requires { verticesPermitted self (length curve.now / 3) ≡ true }
-        ensures { verdictAnswer result ≡ floatsOf self body curve.now }
+        requires { vertices_permitted self (length curve.now / 3) ≡ true }
+        ensures { verdict_answer result ≡ floats_of self body curve.now }
     {
         if !self.are_sizes_permitted() {
             return Verdict::Refused(Refusal::Size);
@@ -33,7 +33,7 @@ impl Description {
     // the first refusal or the body by its numbers. Only the check for folds (13), which needs the
     // directions of the segments, is left after it.
     pub fn check_segments(self, curve: &[f32]) -> Verdict
-        ensures { verdictAnswer result ≡ segmentsCheckedOf self curve.now }
+        ensures { verdict_answer result ≡ segments_checked_of self curve.now }
     {
         if curve.len() % 3 != 0 {
             return Verdict::Refused(Refusal::CurveVertices);

@@ -1,6 +1,6 @@
 ghost use Rattle.std.specs.Prelude.{◌≡◌};
-ghost use Rattle.descriptions.specs.Answers.{verdictAnswer, countedAnswer};
-ghost use Rattle.descriptions.specs.Refusals.{shape_of, countsOf};
+ghost use Rattle.descriptions.specs.Answers.{verdict_answer, counted_answer};
+ghost use Rattle.descriptions.specs.Refusals.{shape_of, counts_of};
 
 use crate::description::Description;
 use crate::verdict::{Counted, Verdict};
@@ -10,7 +10,7 @@ impl Description {
     // Checks the number of the curve's vertices (10), the divisions (20) and the longitudes or
     // layers (21), and answers the first refusal or the body by its numbers.
     pub fn shape(self, vertices: usize) -> Verdict
-        ensures { verdictAnswer result ≡ shape_of self vertices }
+        ensures { verdict_answer result ≡ shape_of self vertices }
     {
         if !self.are_vertices_permitted(vertices) {
             return Verdict::Refused(Refusal::CurveVertices);
@@ -27,7 +27,7 @@ impl Description {
     // Checks the same and then the sizes (22), and answers the first refusal or how many vertices
     // and triangles the body has.
     pub fn counts(self, vertices: usize) -> Counted
-        ensures { countedAnswer result ≡ countsOf self vertices }
+        ensures { counted_answer result ≡ counts_of self vertices }
     {
         match self.shape(vertices) {
             Verdict::Refused(why) => Counted::Refused(why),

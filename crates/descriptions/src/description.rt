@@ -1,6 +1,6 @@
 ghost use Rattle.std.specs.Prelude.{◌≡◌, true};
-ghost use Rattle.descriptions.specs.Descriptions.{curveChain, segmentCount, startChecked, cornersOf, topologyOf};
-ghost use Rattle.descriptions.specs.Refusals.{verticesPermitted, ShapePermitted};
+ghost use Rattle.descriptions.specs.Descriptions.{curve_chain, segment_count, start_checked, corners_of, topology_of};
+ghost use Rattle.descriptions.specs.Refusals.{vertices_permitted, ShapePermitted};
 
 use kinds::{Capsule, ClosedCylinder, Ribbon, Topology, Torus, Tube};
 use surface::Chain;
@@ -40,7 +40,7 @@ pub enum Description {
 impl Description {
     // Whether its curve is closed.
     pub fn chain(self) -> Chain
-        ensures { result ≡ curveChain self }
+        ensures { result ≡ curve_chain self }
     {
         match self {
             Description::Ribbon { .. } => Chain::Open,
@@ -55,8 +55,8 @@ impl Description {
     // How many segments a curve of a permitted number of vertices has.
     #[tactic(auto, using(crate::proofs::Shapes::limits))]
     pub fn segment_count(self, vertices: usize) -> u16
-        requires { verticesPermitted self vertices ≡ true }
-        ensures { result ≡ segmentCount self vertices }
+        requires { vertices_permitted self vertices ≡ true }
+        ensures { result ≡ segment_count self vertices }
     {
         if vertices == 0 {
             return 0;
@@ -69,7 +69,7 @@ impl Description {
 
     // Whether a fold (13) is also looked for at vertex 0, where a loop closes.
     fn is_start_checked(self) -> bool
-        ensures { result ≡ startChecked self }
+        ensures { result ≡ start_checked self }
     {
         match self {
             Description::Ribbon { .. } => false,
@@ -84,8 +84,8 @@ impl Description {
     // At how many corners such a curve is checked for folds (13): at the end of every segment if
     // vertex 0 is checked, otherwise at the end of every segment but the last.
     pub fn corner_count(self, vertices: usize) -> u16
-        requires { verticesPermitted self vertices ≡ true }
-        ensures { result ≡ cornersOf self vertices }
+        requires { vertices_permitted self vertices ≡ true }
+        ensures { result ≡ corners_of self vertices }
     {
         let segments = self.segment_count(vertices);
         if self.is_start_checked() {
@@ -101,7 +101,7 @@ impl Description {
     #[tactic(auto, using(crate::proofs::Shapes::limits))]
     pub(crate) fn topology(self, vertices: usize) -> Topology
         requires { ShapePermitted self vertices }
-        ensures { result ≡ topologyOf self vertices }
+        ensures { result ≡ topology_of self vertices }
     {
         let segments = self.segment_count(vertices);
         let divisions = self.divisions() as u16;

@@ -1,5 +1,5 @@
 ghost use Rattle.std.specs.Prelude.{◌≡◌};
-ghost use Rattle.descriptions.specs.KindNumbers.{describedOf, kindNumber, divisionsOf};
+ghost use Rattle.descriptions.specs.KindNumbers.{described_of, kind_number, divisions_of};
 
 use crate::description::Description;
 
@@ -16,7 +16,7 @@ pub enum Described {
 // Makes the description of the kind that has the number `kind`. `size` is the width of a ribbon
 // and the radius of the others, `steps` the longitudes of a capsule and the layers of a closed
 // cylinder. What a kind lacks is ignored.
-#[tactic(auto, unfolding(crate::specs::KindNumbers::describedOf))]
+#[tactic(auto, unfolding(crate::specs::KindNumbers::described_of))]
 pub fn of_kind(
     kind: u32,
     divisions: u32,
@@ -25,7 +25,7 @@ pub fn of_kind(
     size: f32,
     length: f32,
 ) -> Described
-    ensures { result ≡ describedOf kind divisions steps centred size length }
+    ensures { result ≡ described_of kind divisions steps centred size length }
 {
     match kind {
         1 => Described::Known(Description::Ribbon { width: size }),
@@ -60,7 +60,7 @@ pub fn of_kind(
 impl Description {
     // The number of its kind, as `of_kind` takes it.
     pub fn kind_number(self) -> u32
-        ensures { result ≡ kindNumber self }
+        ensures { result ≡ kind_number self }
     {
         match self {
             Description::Ribbon { .. } => 1,
@@ -74,7 +74,7 @@ impl Description {
 
     // The number of its divisions round, as an entry has it: 0 for a ribbon.
     pub fn divisions(self) -> u32
-        ensures { result ≡ divisionsOf self }
+        ensures { result ≡ divisions_of self }
     {
         match self {
             Description::Ribbon { .. } => 0,

@@ -1,15 +1,15 @@
 ghost use Rattle.std.specs.Prelude.{◌≡◌, true};
-ghost use Rattle.descriptions.specs.Refusals.{leastVertices, mostVertices, verticesPermitted};
-ghost use Rattle.descriptions.specs.Refusals.{leastDivisions, mostDivisions, roundPermitted};
-ghost use Rattle.descriptions.specs.Refusals.{lengthwisePermitted, sizePermitted, sizesPermitted};
+ghost use Rattle.descriptions.specs.Refusals.{least_vertices, most_vertices, vertices_permitted};
+ghost use Rattle.descriptions.specs.Refusals.{least_divisions, most_divisions, round_permitted};
+ghost use Rattle.descriptions.specs.Refusals.{lengthwise_permitted, size_permitted, sizes_permitted};
 
 use crate::description::Description;
 use kinds::{Capsule, ClosedCylinder, Ribbon, Torus, Tube, is_between};
 
 // Whether a radius, a width or a length is permitted (22).
-#[tactic(auto, unfolding(crate::specs::Refusals::sizePermitted))]
+#[tactic(auto, unfolding(crate::specs::Refusals::size_permitted))]
 fn is_size_permitted(x: f32) -> bool
-    ensures { result ≡ sizePermitted x }
+    ensures { result ≡ size_permitted x }
 {
     float32::is_finite(x) && x > 0.0
 }
@@ -18,7 +18,7 @@ impl Description {
     // The least number of vertices that its curve may have. An open curve has one vertex more than
     // segments.
     fn least_vertices(self) -> u16
-        ensures { result ≡ leastVertices self }
+        ensures { result ≡ least_vertices self }
     {
         match self {
             Description::Ribbon { .. } => Ribbon::LEAST_SEGMENTS + 1,
@@ -32,7 +32,7 @@ impl Description {
 
     // The most.
     fn most_vertices(self) -> u16
-        ensures { result ≡ mostVertices self }
+        ensures { result ≡ most_vertices self }
     {
         match self {
             Description::Ribbon { .. } => Ribbon::MOST_SEGMENTS + 1,
@@ -46,7 +46,7 @@ impl Description {
 
     // The least number of divisions round that it may have. A ribbon has none.
     fn least_divisions(self) -> u16
-        ensures { result ≡ leastDivisions self }
+        ensures { result ≡ least_divisions self }
     {
         match self {
             Description::Ribbon { .. } => 0,
@@ -60,7 +60,7 @@ impl Description {
 
     // The most.
     fn most_divisions(self) -> u16
-        ensures { result ≡ mostDivisions self }
+        ensures { result ≡ most_divisions self }
     {
         match self {
             Description::Ribbon { .. } => 0,
@@ -74,14 +74,14 @@ impl Description {
 
     // Whether its curve may have this number of vertices (10).
     pub(crate) fn are_vertices_permitted(self, vertices: usize) -> bool
-        ensures { result ≡ verticesPermitted self vertices }
+        ensures { result ≡ vertices_permitted self vertices }
     {
         is_between(self.least_vertices(), self.most_vertices(), vertices)
     }
 
     // Whether its number of divisions round is permitted (20).
     pub(crate) fn is_round_permitted(self) -> bool
-        ensures { result ≡ roundPermitted self }
+        ensures { result ≡ round_permitted self }
     {
         is_between(
             self.least_divisions(),
@@ -93,8 +93,8 @@ impl Description {
     // Whether its longitudes or layers are permitted (21), for a curve of a permitted number of
     // vertices.
     pub(crate) fn is_lengthwise_permitted(self, vertices: usize) -> bool
-        requires { verticesPermitted self vertices ≡ true }
-        ensures { result ≡ lengthwisePermitted self vertices }
+        requires { vertices_permitted self vertices ≡ true }
+        ensures { result ≡ lengthwise_permitted self vertices }
     {
         match self {
             Description::Ribbon { .. } => true,
@@ -115,7 +115,7 @@ impl Description {
 
     // Whether its radius, width and length are permitted (22).
     pub(crate) fn are_sizes_permitted(self) -> bool
-        ensures { result ≡ sizesPermitted self }
+        ensures { result ≡ sizes_permitted self }
     {
         match self {
             Description::Ribbon { width } => is_size_permitted(width),

@@ -6,18 +6,18 @@ use Prim.Native.Nat.{ℕ, ◌+◌, ◌-◌, ◌*◌, ◌≤◌, ◌<◌}
 use native.Mathlib.Nat.{eq-zero-or-pos, mul-le-mul_right}
 use native.Mathlib.Omega.{arith}
 use Rattle.surface.specs.Triangles.{Triangle}
-use Rattle.surface.specs.Grid.{after_of, gridTriangles}
-use Rattle.surface.specs.Caps.{capTriangles}
+use Rattle.surface.specs.Grid.{after_of, grid_triangles}
+use Rattle.surface.specs.Caps.{cap_triangles}
 use Rattle.surface.specs.declared.grid.Chain.TheVariants.{Open, Closed}
 use Rattle.surface.specs.declared.caps.End.{End}
 use Rattle.surface.specs.declared.caps.End.TheVariants.{Bottom, Top}
 use Rattle.surface.specs.declared.quads.Split.TheVariants.{Capped}
 use Rattle.surface.proofs.Chains.{after-lt}
 use Rattle.edges.specs.Edges.{Edge, ◌⟶◌, reverse, edges, same, total, count, is_zero, NoneTwice, AllMatched, Inside, Within}
-use Rattle.edges.proofs.Zero.{isZero-yes}
+use Rattle.edges.proofs.Zero.{is_zero-yes}
 use Rattle.edges.proofs.Totals.{total-edges, within-append, within-blocks, within-widen}
 use Rattle.edges.proofs.Chains.{chain-turn, before, corner, corner-lt}
-use Rattle.edges.proofs.Corners.{below6, patternOf}
+use Rattle.edges.proofs.Corners.{below6, pattern_of}
 use Rattle.edges.proofs.Places.{places, Placed, places-pos, places-find, places-once}
 use Rattle.edges.proofs.Grid.{place, outer, grid-apart, grid-mate, grid-lone}
 use Rattle.edges.proofs.GridList.{grid-total, grid-within, in-grid}
@@ -37,7 +37,7 @@ third Top n rim i = rim + i
 abbrev cap : End → ℕ → ℕ → ℕ → ℕ → ℕ → ℕ → Edge
 cap end n pole rim = fan pole (second end n rim) (third end n rim)
 
-cap-total : (end : End) (n pole rim : ℕ) (f : Edge → ℕ) → total f (edges (capTriangles end n pole rim)) ≡ places 1 n 3 (cap end n pole rim) f
+cap-total : (end : End) (n pole rim : ℕ) (f : Edge → ℕ) → total f (edges (cap_triangles end n pole rim)) ≡ places 1 n 3 (cap end n pole rim) f
 cap-total Bottom n pole rim f = fan-total pole (second Bottom n rim) (third Bottom n rim) n f
 cap-total Top n pole rim f = fan-total pole (second Top n rim) (third Top n rim) n f
 
@@ -98,27 +98,27 @@ module _ (n S first : ℕ) where
   rim Bottom = first + 1
   rim Top = first + 1 + S * n
 
-  abbrev capList : End → List Triangle
-  capList end = capTriangles end n (pole end) (rim end)
+  abbrev cap_list : End → List Triangle
+  cap_list end = cap_triangles end n (pole end) (rim end)
 
   abbrev grid : List Triangle
-  grid = gridTriangles Capped Open S Closed n (first + 1)
+  grid = grid_triangles Capped Open S Closed n (first + 1)
 
   abbrev pub capped : List Triangle
-  capped = capList Bottom ++ (grid ++ capList Top)
+  capped = cap_list Bottom ++ (grid ++ cap_list Top)
 
   abbrev at : ℕ → ℕ → ℕ → Edge
-  at = place (patternOf Capped) Open S Closed n (first + 1)
+  at = place (pattern_of Capped) Open S Closed n (first + 1)
 
   abbrev cap_at : End → ℕ → ℕ → ℕ → Edge
   cap_at end = cap end n (pole end) (rim end)
 
   capped-total : (f : Edge → ℕ) → total f (edges capped) ≡ places 1 n 3 (cap_at Bottom) f + (places S n 6 at f + places 1 n 3 (cap_at Top) f)
   capped-total f =
-      total-edges f (capList Bottom) (grid ++ capList Top)
+      total-edges f (cap_list Bottom) (grid ++ cap_list Top)
       ∙ omega (
         arith,
-        total-edges f grid (capList Top),
+        total-edges f grid (cap_list Top),
         cap-total Bottom n (pole Bottom) (rim Bottom) f,
         grid-total Capped Open S Closed n (first + 1) f,
         cap-total Top n (pole Top) (rim Top) f,
@@ -150,7 +150,7 @@ module _ (n S first : ℕ) where
     rim-edge Top i = let e : S - 1 + 1 ≡ S = omega arith in rw e
 
     abbrev out : ℕ → ℕ → ℕ → ℕ
-    out = outer Open S Closed n (first + 1) hS hn (patternOf Capped)
+    out = outer Open S Closed n (first + 1) hS hn (pattern_of Capped)
 
     rim-out : (end : End) (i : ℕ) → 1 ≤ out (row end) i (slot end)
     rim-out Bottom i = omega arith
@@ -170,12 +170,12 @@ module _ (n S first : ℕ) where
 
     grid-leaves : (g i s : ℕ) → g < S → i < n → s < 6 → Inside (first + 1) (first + 1 + (S + 1) * n) (leaves (at g i s))
     grid-leaves g i s hg hi hs =
-        let t = (patternOf Capped).tail s in
+        let t = (pattern_of Capped).tail s in
         in-grid Capped Open S Closed n (first + 1) (corner Open S t.0 g) (corner Closed n t.1 i) (corner-lt Open S t.0 g hg) (corner-lt Closed n t.1 i hi)
 
     grid-reaches : (g i s : ℕ) → g < S → i < n → s < 6 → Inside (first + 1) (first + 1 + (S + 1) * n) (reaches (at g i s))
     grid-reaches g i s hg hi hs =
-        let h = (patternOf Capped).head s in
+        let h = (pattern_of Capped).head s in
         in-grid Capped Open S Closed n (first + 1) (corner Open S h.0 g) (corner Closed n h.1 i) (corner-lt Open S h.0 g hg) (corner-lt Closed n h.1 i hi)
 
     -- ---- no edge twice
@@ -184,7 +184,7 @@ module _ (n S first : ℕ) where
     cap-grid end e (k, i, s, hk, hi, hs, p) (g', i', s', hg', hi', hs', q) =
         below3 (λ s. e ≡ cap_at end k i s → ⊥)
         (λ p. off-grid end (leaves (at g' i' s')) (grid-leaves g' i' s' hg' hi' hs') (ap leaves (sym p ∙ q)))
-        (λ p. grid-lone Open S Closed n (first + 1) hS hn (patternOf Capped) (row end) i (slot end) (row_lt end) hi (slot_lt end) (rim-out end i)
+        (λ p. grid-lone Open S Closed n (first + 1) hS hn (pattern_of Capped) (row end) i (slot end) (row_lt end) hi (slot_lt end) (rim-out end i)
         (g', i', s', hg', hi', hs', sym (rim-edge end i) ∙ sym p ∙ q))
         (λ p. off-grid end (reaches (at g' i' s')) (grid-reaches g' i' s' hg' hi' hs') (ap reaches (sym p ∙ q)))
         s hs p
@@ -210,7 +210,7 @@ module _ (n S first : ℕ) where
     pub capped-once : NoneTwice (edges capped)
     capped-once e =
         subst (λ (k : ℕ). k ≤ 1) (sym (capped-total (same e)))
-        (three-once _ _ _ (cap-once Bottom e) (places-once S n 6 at (grid-apart Open S Closed n (first + 1) hS hn (patternOf Capped)) e) (cap-once Top e)
+        (three-once _ _ _ (cap-once Bottom e) (places-once S n 6 at (grid-apart Open S Closed n (first + 1) hS hn (pattern_of Capped)) e) (cap-once Top e)
         (λ h k. cap-grid Bottom e (places-find 1 n 3 (cap_at Bottom) e h) (places-find S n 6 at e k))
         (λ h k. caps-apart e (places-find 1 n 3 (cap_at Bottom) e h) (places-find 1 n 3 (cap_at Top) e k))
         (λ h k. cap-grid Top e (places-find 1 n 3 (cap_at Top) e h) (places-find S n 6 at e k)))
@@ -233,7 +233,7 @@ module _ (n S first : ℕ) where
         s hs)
 
     inner-mate : (g i s : ℕ) → g < S → i < n → s < 6 → out g i s ≡ 0 → 1 ≤ count (reverse (at g i s)) (edges capped)
-    inner-mate g i s hg hi hs o = in-sides (reverse (at g i s)) (grid-mate Open S Closed n (first + 1) hS hn (patternOf Capped) g i s hg hi hs o)
+    inner-mate g i s hg hi hs o = in-sides (reverse (at g i s)) (grid-mate Open S Closed n (first + 1) hS hn (pattern_of Capped) g i s hg hi hs o)
 
     -- the reverse of the side that a cap closes
     closed-by : (end : End) (i : ℕ) → i < n → 1 ≤ count (reverse (at (row end) i (slot end))) (edges capped)
@@ -251,11 +251,11 @@ module _ (n S first : ℕ) where
       where
         low : (is_zero g ≡ 0) ⊎ (0 < is_zero g) → 1 ≤ count (reverse (at g i 0)) (edges capped)
         low (inl z) = inner-mate g i 0 hg hi (omega arith) (omega arith)
-        low (inr p) = let e : g ≡ 0 = isZero-yes g p in rw e (closed-by Bottom i hi)
+        low (inr p) = let e : g ≡ 0 = is_zero-yes g p in rw e (closed-by Bottom i hi)
 
         high : (is_zero (S - (g + 1)) ≡ 0) ⊎ (0 < is_zero (S - (g + 1))) → 1 ≤ count (reverse (at g i 3)) (edges capped)
         high (inl z) = inner-mate g i 3 hg hi (omega arith) (omega arith)
-        high (inr p) = let z = isZero-yes (S - (g + 1)) p in let e : g ≡ S - 1 = omega arith in rw e (closed-by Top i hi)
+        high (inr p) = let z = is_zero-yes (S - (g + 1)) p in let e : g ≡ S - 1 = omega arith in rw e (closed-by Top i hi)
 
     pub capped-matched : AllMatched (edges capped)
     capped-matched e h = go (eq-zero-or-pos (places 1 n 3 (cap_at Bottom) (same e))) (eq-zero-or-pos (places S n 6 at (same e)))
@@ -268,14 +268,14 @@ module _ (n S first : ℕ) where
 
   -- ---- no index outside
 
-  cap-within : (end : End) (v w pole rim : ℕ) → Inside v w pole → v ≤ rim → rim + n ≤ w → Within v w (capTriangles end n pole rim)
+  cap-within : (end : End) (v w pole rim : ℕ) → Inside v w pole → v ≤ rim → rim + n ≤ w → Within v w (cap_triangles end n pole rim)
   cap-within Bottom v w pole rim hp l u = within-blocks v w n _ (λ i h. (hp, omega arith, omega (arith, after-lt Closed n i h), tt))
   cap-within Top v w pole rim hp l u = within-blocks v w n _ (λ i h. (hp, omega (arith, after-lt Closed n i h), omega arith, tt))
 
   pub capped-within : Within first (first + ((S + 1) * n + 2)) capped
   capped-within =
-      within-append first _ (capList Bottom) (grid ++ capList Top)
+      within-append first _ (cap_list Bottom) (grid ++ cap_list Top)
       (cap-within Bottom first _ (pole Bottom) (rim Bottom) (omega arith) (omega arith) (omega arith))
-      (within-append first _ grid (capList Top)
+      (within-append first _ grid (cap_list Top)
       (within-widen (first + 1) (first + 1 + (S + 1) * n) first _ grid (omega arith) (omega arith) (grid-within Capped Open S Closed n (first + 1)))
       (cap-within Top first _ (pole Top) (rim Top) (omega arith) (omega arith) (omega arith)))

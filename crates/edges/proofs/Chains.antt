@@ -10,8 +10,8 @@ use Rattle.surface.specs.Grid.{after_of, points_of}
 use Rattle.surface.specs.declared.grid.Chain.{Chain}
 use Rattle.surface.specs.declared.grid.Chain.TheVariants.{Open, Closed}
 use Rattle.surface.proofs.Chains.{after-lt}
-use Rattle.edges.specs.Edges.{is_zero, leastSteps, ends}
-use Rattle.edges.proofs.Zero.{isZero-le, isZero-no, isZero-yes, isZero-pos, isZero-zero}
+use Rattle.edges.specs.Edges.{is_zero, least_steps, ends}
+use Rattle.edges.proofs.Zero.{is_zero-le, is_zero-no, is_zero-yes, is_zero-pos, is_zero-zero}
 use Rattle.edges.proofs.Sum.{sum, sum-zero, sum-at}
 
 -- ---- the point after another
@@ -37,7 +37,7 @@ pub record Turn (next : ℕ → ℕ) (n : ℕ) : Type 0 where
   pub twice : (i : ℕ) → next (next i) ≢ i
   pub one_way : (i j : ℕ) → i < n → j < n → next i ≡ next j → i ≡ j
 
-pub chain-turn : (chain : Chain) (n : ℕ) → leastSteps chain ≤ n → Turn (after_of chain n) n
+pub chain-turn : (chain : Chain) (n : ℕ) → least_steps chain ≤ n → Turn (after_of chain n) n
 chain-turn Open n h = record { moves = λ i. omega arith; twice = λ i. omega arith; one_way = λ i j hi hj p. omega arith }
 chain-turn Closed n h = record {
   moves = λ i. moves i (dec_lt i n);
@@ -81,7 +81,7 @@ corner-lt Open n false i h = omega arith
 corner-lt Closed n false i h = h
 corner-lt chain n true i h = after-lt chain n i h
 
-pub corner-inj : (chain : Chain) (n : ℕ) → leastSteps chain ≤ n → (x : Bool) (i j : ℕ) → i < n → j < n → corner chain n x i ≡ corner chain n x j → i ≡ j
+pub corner-inj : (chain : Chain) (n : ℕ) → least_steps chain ≤ n → (x : Bool) (i j : ℕ) → i < n → j < n → corner chain n x i ≡ corner chain n x j → i ≡ j
 corner-inj chain n h false i j hi hj p = p
 corner-inj chain n h true i j hi hj p = (chain-turn chain n h).one_way i j hi hj p
 
@@ -113,23 +113,23 @@ abbrev pub at_start : Chain → ℕ → ℕ
 at_start Open i = is_zero i
 at_start Closed i = 0
 
-abbrev pub atEnd : Chain → ℕ → ℕ → ℕ
-atEnd Open n i = is_zero (n - (i + 1))
-atEnd Closed n i = 0
+abbrev pub at_end : Chain → ℕ → ℕ → ℕ
+at_end Open n i = is_zero (n - (i + 1))
+at_end Closed n i = 0
 
 -- 1 where there is no step on the other side
 abbrev pub outside : Chain → ℕ → Bool → Bool → ℕ → ℕ
 outside chain n false false i = at_start chain i
 outside chain n false true i = 0
 outside chain n true false i = 0
-outside chain n true true i = atEnd chain n i
+outside chain n true true i = at_end chain n i
 
 pub outside-le : (chain : Chain) (n : ℕ) (x y : Bool) (i : ℕ) → outside chain n x y i ≤ 1
-outside-le Open n false false i = isZero-le i
+outside-le Open n false false i = is_zero-le i
 outside-le Closed n false false i = omega arith
 outside-le chain n false true i = omega arith
 outside-le chain n true false i = omega arith
-outside-le Open n true true i = isZero-le (n - (i + 1))
+outside-le Open n true true i = is_zero-le (n - (i + 1))
 outside-le Closed n true true i = omega arith
 
 abbrev Neighbour : Chain → ℕ → Bool → Bool → ℕ → Type 0
@@ -140,29 +140,29 @@ before n zero h = (n - 1, omega arith, (let e : n - 1 + 1 ≡ n = omega arith in
 before n (suc i) h = (i, omega arith, mod-eq_of_lt (omega arith) ∙ omega arith)
 
 pub neighbour : (chain : Chain) (n : ℕ) (x y : Bool) (i : ℕ) → i < n → outside chain n x y i ≡ 0 → Neighbour chain n x y i
-neighbour Open n false false i h o = let p = isZero-no i o in (i - 1, omega arith, omega arith)
+neighbour Open n false false i h o = let p = is_zero-no i o in (i - 1, omega arith, omega arith)
 neighbour Closed n false false i h o = before n i h
 neighbour chain n false true i h o = (i, h, refl)
 neighbour chain n true false i h o = (i, h, refl)
-neighbour Open n true true i h o = let p = isZero-no (n - (i + 1)) o in (i + 1, omega arith, refl)
+neighbour Open n true true i h o = let p = is_zero-no (n - (i + 1)) o in (i + 1, omega arith, refl)
 neighbour Closed n true true i h o = ((i + 1) % n, next-lt n i (omega arith), refl)
 
 pub no-neighbour : (chain : Chain) (n : ℕ) (x y : Bool) (i j : ℕ) → j < n → 1 ≤ outside chain n x y i → corner chain n (not x) j ≡ corner chain n y i → ⊥
-no-neighbour Open n false false i j h o p = let z = isZero-yes i o in omega arith
+no-neighbour Open n false false i j h o p = let z = is_zero-yes i o in omega arith
 no-neighbour Closed n false false i j h o p = omega arith
 no-neighbour chain n false true i j h o p = omega arith
 no-neighbour chain n true false i j h o p = omega arith
-no-neighbour Open n true true i j h o p = let z = isZero-yes (n - (i + 1)) o in omega arith
+no-neighbour Open n true true i j h o p = let z = is_zero-yes (n - (i + 1)) o in omega arith
 no-neighbour Closed n true true i j h o p = omega arith
 
 -- ---- how many ends there are
 
-pub sum-ends : (chain : Chain) (n : ℕ) → leastSteps chain ≤ n → sum n (λ i. at_start chain i) + sum n (λ i. atEnd chain n i) ≡ ends chain
+pub sum-ends : (chain : Chain) (n : ℕ) → least_steps chain ≤ n → sum n (λ i. at_start chain i) + sum n (λ i. at_end chain n i) ≡ ends chain
 sum-ends Open n h =
     omega (
       arith,
-      sum-at n (λ i. is_zero i) 0 (omega arith) (λ i l ne. isZero-pos i (omega arith)),
-      sum-at n (λ i. is_zero (n - (i + 1))) (n - 1) (omega arith) (λ i l ne. isZero-pos (n - (i + 1)) (omega arith)),
-      isZero-zero (n - (n - 1 + 1)) (omega arith),
+      sum-at n (λ i. is_zero i) 0 (omega arith) (λ i l ne. is_zero-pos i (omega arith)),
+      sum-at n (λ i. is_zero (n - (i + 1))) (n - 1) (omega arith) (λ i l ne. is_zero-pos (n - (i + 1)) (omega arith)),
+      is_zero-zero (n - (n - 1 + 1)) (omega arith),
     )
 sum-ends Closed n h = omega (arith, sum-zero n (λ i. 0) (λ i l. refl))

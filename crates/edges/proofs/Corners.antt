@@ -132,8 +132,8 @@ mirrored P = record {
 }
 
 -- torus and ribbon turn one way, tube and capped body the other
-abbrev pub patternOf : Split → Pattern
-patternOf Capped = mirrored forward
-patternOf Torus = forward
-patternOf Tube = mirrored forward
-patternOf Ribbon = forward
+abbrev pub pattern_of : Split → Pattern
+pattern_of Capped = mirrored forward
+pattern_of Torus = forward
+pattern_of Tube = mirrored forward
+pattern_of Ribbon = forward

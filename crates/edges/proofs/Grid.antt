@@ -9,9 +9,9 @@ use native.Mathlib.Omega.{arith}
 use lib.Arith.{digits_div, digits_mod}
 use Rattle.surface.specs.Grid.{after_of, points_of}
 use Rattle.surface.specs.declared.grid.Chain.{Chain}
-use Rattle.edges.specs.Edges.{Edge, ◌⟶◌, reverse, leastSteps, ends}
+use Rattle.edges.specs.Edges.{Edge, ◌⟶◌, reverse, least_steps, ends}
 use Rattle.edges.proofs.Sum.{sum, sum-cong, sum-add, sum-const, sum-mul}
-use Rattle.edges.proofs.Chains.{Turn, chain-turn, corner, corner-lt, corner-inj, across-tail, across-head, outside, outside-le, neighbour, no-neighbour, at_start, atEnd, sum-ends}
+use Rattle.edges.proofs.Chains.{Turn, chain-turn, corner, corner-lt, corner-inj, across-tail, across-head, outside, outside-le, neighbour, no-neighbour, at_start, at_end, sum-ends}
 use Rattle.edges.proofs.Corners.{Corner, opposite, Step, none, onward, back, step, Pattern}
 use Rattle.edges.proofs.Places.{Placed, Apart}
 
@@ -40,7 +40,7 @@ goes chain n true false i = refl
 goes chain n true true i = refl
 
 -- two edges of quads with the same ends make the same step
-one-step : (chain : Chain) (n : ℕ) → leastSteps chain ≤ n → (x y x' y' : Bool) (i i' : ℕ)
+one-step : (chain : Chain) (n : ℕ) → least_steps chain ≤ n → (x y x' y' : Bool) (i i' : ℕ)
     → corner chain n x i ≡ corner chain n x' i' → corner chain n y i ≡ corner chain n y' i' → step x y ≡ step x' y'
 one-step chain n h x y x' y' i i' p q =
     goes-once (chain-turn chain n h) (step x y) (step x' y') (corner chain n x' i') (corner chain n y' i')
@@ -66,7 +66,7 @@ link along m round n base t h g i =
 abbrev pub place : Pattern → Chain → ℕ → Chain → ℕ → ℕ → ℕ → ℕ → ℕ → Edge
 place P along m round n base g i s = link along m round n base (P.tail s) (P.head s) g i
 
-module _ (along : Chain) (m : ℕ) (round : Chain) (n : ℕ) (base : ℕ) (hm : leastSteps along ≤ m) (hn : leastSteps round ≤ n) where
+module _ (along : Chain) (m : ℕ) (round : Chain) (n : ℕ) (base : ℕ) (hm : least_steps along ≤ m) (hn : least_steps round ≤ n) where
   -- Links that are one edge make the same steps from the same vertex.
   pub record SameLink (t h t' h' : Corner) (g i g' i' : ℕ) : Type 0 where
     pub step-along : step t.0 h.0 ≡ step t'.0 h'.0
@@ -182,12 +182,12 @@ module _ (along : Chain) (m : ℕ) (round : Chain) (n : ℕ) (base : ℕ) (hm : 
           arith,
           sum-mul m n across,
           sum-const m (λ g. sum n along-side) (sum n along-side) (λ g hg. refl),
-          ap (λ (k : ℕ). n * k) (sum-add m (λ g. at_start along g) (λ g. atEnd along m g) ∙ sum-ends along m hm),
-          ap (λ (k : ℕ). m * k) (sum-add n (λ i. at_start round i) (λ i. atEnd round n i) ∙ sum-ends round n hn),
+          ap (λ (k : ℕ). n * k) (sum-add m (λ g. at_start along g) (λ g. at_end along m g) ∙ sum-ends along m hm),
+          ap (λ (k : ℕ). m * k) (sum-add n (λ i. at_start round i) (λ i. at_end round n i) ∙ sum-ends round n hn),
         )
       where
         across : ℕ → ℕ
-        across g = at_start along g + atEnd along m g
+        across g = at_start along g + at_end along m g
 
         along-side : ℕ → ℕ
-        along-side i = at_start round i + atEnd round n i
+        along-side i = at_start round i + at_end round n i

@@ -8,7 +8,7 @@ use native.Mathlib.Nat.{eq-zero-or-pos, le_of_suc-le-suc}
 use native.Mathlib.Omega.{arith}
 use lib.ListN.{length, get_or}
 use Rattle.edges.specs.Edges.{Edge, reverse, same, total, count, lacks, unmatched, NoneTwice, AllMatched}
-use Rattle.edges.proofs.Zero.{isZero-no, isZero-pos}
+use Rattle.edges.proofs.Zero.{is_zero-no, is_zero-pos}
 use Rattle.edges.proofs.Totals.{same_of, same-eq}
 
 -- a total that is 0 is 0 at each edge of the list, and the other way round
@@ -25,10 +25,10 @@ zero_of f [] h = refl
 zero_of f (x ∷ es) h = omega (arith, h x (omega (arith, same_of x x refl)), zero_of f es (λ e l. h e (omega arith)))
 
 pub matched-of : (es : List Edge) → unmatched es ≡ 0 → AllMatched es
-matched-of es z e h = isZero-no (count (reverse e) es) (zero-at (lacks es) es e z h)
+matched-of es z e h = is_zero-no (count (reverse e) es) (zero-at (lacks es) es e z h)
 
 pub of-matched : (es : List Edge) → AllMatched es → unmatched es ≡ 0
-of-matched es m = zero_of (lacks es) es (λ e h. isZero-pos (count (reverse e) es) (m e h))
+of-matched es m = zero_of (lacks es) es (λ e h. is_zero-pos (count (reverse e) es) (m e h))
 
 -- two places of a list that hold one edge are one place
 count_at : (es : List Edge) (p : ℕ) (d e : Edge) → p < length es → e ≡ get_or es p d → 1 ≤ count e es

@@ -4,22 +4,22 @@ use Prim.Native.Nat.{ℕ, zero, suc, ◌≤◌, ◌<◌}
 use native.Mathlib.Omega.{arith}
 use Rattle.edges.specs.Edges.{is_zero}
 
-pub isZero-le : (k : ℕ) → is_zero k ≤ 1
-isZero-le zero = omega arith
-isZero-le (suc k) = omega arith
+pub is_zero-le : (k : ℕ) → is_zero k ≤ 1
+is_zero-le zero = omega arith
+is_zero-le (suc k) = omega arith
 
-pub isZero-no : (k : ℕ) → is_zero k ≡ 0 → 0 < k
-isZero-no zero h = absurd (omega arith)
-isZero-no (suc k) h = omega arith
+pub is_zero-no : (k : ℕ) → is_zero k ≡ 0 → 0 < k
+is_zero-no zero h = absurd (omega arith)
+is_zero-no (suc k) h = omega arith
 
-pub isZero-yes : (k : ℕ) → 1 ≤ is_zero k → k ≡ 0
-isZero-yes zero h = refl
-isZero-yes (suc k) h = absurd (omega arith)
+pub is_zero-yes : (k : ℕ) → 1 ≤ is_zero k → k ≡ 0
+is_zero-yes zero h = refl
+is_zero-yes (suc k) h = absurd (omega arith)
 
-pub isZero-pos : (k : ℕ) → 0 < k → is_zero k ≡ 0
-isZero-pos zero h = omega arith
-isZero-pos (suc k) h = refl
+pub is_zero-pos : (k : ℕ) → 0 < k → is_zero k ≡ 0
+is_zero-pos zero h = omega arith
+is_zero-pos (suc k) h = refl
 
-pub isZero-zero : (k : ℕ) → k ≡ 0 → is_zero k ≡ 1
-isZero-zero zero h = refl
-isZero-zero (suc k) h = absurd (omega arith)
+pub is_zero-zero : (k : ℕ) → k ≡ 0 → is_zero k ≡ 1
+is_zero-zero zero h = refl
+is_zero-zero (suc k) h = absurd (omega arith)

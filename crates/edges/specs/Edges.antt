@@ -69,9 +69,9 @@ Within least end (triangle a b c ∷ ts) =
 
 -- How many steps a chain has at least. On a closed one of two the step forward and the step back
 -- lead to one point, so that edges meet their reverses that should not.
-abbrev pub leastSteps : Chain → ℕ
-leastSteps Open = 1
-leastSteps Closed = 3
+abbrev pub least_steps : Chain → ℕ
+least_steps Open = 1
+least_steps Closed = 3
 
 -- How many ends a chain has.
 abbrev pub ends : Chain → ℕ

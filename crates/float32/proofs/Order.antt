@@ -51,14 +51,14 @@ not-below true a false b h = omega arith
 not-below true a true b h = omega (arith, ltb-false a b h)
 
 -- what `le` computes for such numbers
-abbrev belowOrLevel : Bool → ℕ → Bool → ℕ → Bool
-belowOrLevel s a t b = below s a t b || level s a t b
+abbrev below_or_level : Bool → ℕ → Bool → ℕ → Bool
+below_or_level s a t b = below s a t b || level s a t b
 
-le-at-most : (s : Bool) (a : ℕ) (t : Bool) (b : ℕ) → belowOrLevel s a t b ≡ true → AtMost s a t b
+le-at-most : (s : Bool) (a : ℕ) (t : Bool) (b : ℕ) → below_or_level s a t b ≡ true → AtMost s a t b
 le-at-most s a t b h =
     ⊎_elim (below-at-most s a t b) (level-at-most s a t b) (either_true (below s a t b) (level s a t b) h)
 
-at-most-le : (s : Bool) (a : ℕ) (t : Bool) (b : ℕ) → AtMost s a t b → belowOrLevel s a t b ≡ true
+at-most-le : (s : Bool) (a : ℕ) (t : Bool) (b : ℕ) → AtMost s a t b → below_or_level s a t b ≡ true
 at-most-le false a false b h =
     let l : a ≤ b = omega arith in
     ⊎_elim (λ e. rw (eq-eqb a b e) (or-true (ltb a b))) (λ n. rw (lt-ltb a b n)) (eq-or-lt_of_le l)

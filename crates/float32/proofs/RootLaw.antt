@@ -11,15 +11,15 @@ use lib.Pow.{pow_pos, pow-add}
 use lib.Ieee.{Float, nan, inf, fin, binary32, up, down, size, nearest, units, of_bits}
 use lib.Ieee.Fits.{down_pos}
 use lib.Ieee.Exact.{HasValue}
-use Rattle.float32.specs.WholeRoot.{IsRoot, wholeRoot, wholeRoot-is}
-use Rattle.float32.specs.Root.{rootOfUnits, rootOf}
+use Rattle.float32.specs.WholeRoot.{IsRoot, whole_root, whole_root-is}
+use Rattle.float32.specs.Root.{root_of_units, root_of}
 use Rattle.float32.specs.Near.{Near, RootBits}
 use Rattle.float32.proofs.Squares.{root-le, root-scaled, near-is}
 use Rattle.float32.proofs.UnitPatterns.{places-below, whole-units, units-bits}
 
 -- ---- a value of n units
-root-at : (x : Float) (n : ℕ) → 0 < n → HasValue x false n (2 ^ 149) → rootOf x ≡ rootOfUnits n
-unfolding rootOf
+root-at : (x : Float) (n : ℕ) → 0 < n → HasValue x false n (2 ^ 149) → root_of x ≡ root_of_units n
+unfolding root_of
 root-at nan n P v = absurd v
 root-at (inf s) n P v = absurd v
 root-at (fin true m e) n P v = absurd (apart v.0)
@@ -30,14 +30,14 @@ root-at (fin false zero e) n P v = absurd (none (n * down e) (mul-pos P (down_po
   where
     none : (z : ℕ) → 0 < z → z ≡ zero * up e * 2 ^ 149 → ⊥
     none z h k = lt_irrefl 0 (subst (λ (y : ℕ). 0 < y) (k ∙ ap (λ (y : ℕ). y * 2 ^ 149) (zero-mul (up e)) ∙ zero-mul (2 ^ 149)) h)
-root-at (fin false (suc m) e) n P v = ap rootOfUnits (whole-units (suc m * up e * 2 ^ 149) n (down e) (down_pos e) v.1)
+root-at (fin false (suc m) e) n P v = ap root_of_units (whole-units (suc m * up e * 2 ^ 149) n (down e) (down_pos e) v.1)
 
 -- ---- the root's 24 leading digits and their place
 abbrev rounded : ℕ → ℕ → ℕ → Float
 rounded w r k = units binary32 false (nearest (r / 2 ^ k) (compare (4 * w) ((2 * (r / 2 ^ k) + 1) * 2 ^ k * ((2 * (r / 2 ^ k) + 1) * 2 ^ k)))) k
 
-root_is : (n : ℕ) → rootOfUnits n ≡ rounded (n * 2 ^ 149) (wholeRoot (n * 2 ^ 149)) (size (wholeRoot (n * 2 ^ 149)) - 24)
-unfolding rootOfUnits
+root_is : (n : ℕ) → root_of_units n ≡ rounded (n * 2 ^ 149) (whole_root (n * 2 ^ 149)) (size (whole_root (n * 2 ^ 149)) - 24)
+unfolding root_of_units
 root_is n = refl
 
 module _ (w N k r : ℕ) (e : w ≡ N * (2 ^ k * 2 ^ k)) (i : IsRoot w r) (l : 70368744177664 ≤ N) (u : N < 281474976710656) where
@@ -71,11 +71,11 @@ near-high N g u n = le_of_suc-le-suc (lt_of_not-le (λ (h : 16777217 ≤ g). far
 
 -- ---- the law: x is n units, and n * 2 ^ 149 is N * 4 ^ k
 root-law : (x : Float) (n N k g : ℕ) → 0 < n → HasValue x false n (2 ^ 149) → n * 2 ^ 149 ≡ N * (2 ^ k * 2 ^ k) → 70368744177664 ≤ N → N < 281474976710656 → k ≤ 190
-    → Near N g → rootOf x ≡ of_bits binary32 (k * 8388608 + g)
+    → Near N g → root_of x ≡ of_bits binary32 (k * 8388608 + g)
 root-law x n N k g P v e l u h near =
     root-at x n P v
     ∙ root_is n
-    ∙ rounded-is (n * 2 ^ 149) N k (wholeRoot (n * 2 ^ 149)) e (wholeRoot-is (n * 2 ^ 149)) l u g near
+    ∙ rounded-is (n * 2 ^ 149) N k (whole_root (n * 2 ^ 149)) e (whole_root-is (n * 2 ^ 149)) l u g near
     ∙ units-bits k g (near-low N g l near) (near-high N g u near) h
 
 root-bits-at : (m p a k g : ℕ) → p ≡ a + (k + k) → 70368744177664 ≤ m * 2 ^ a → m * 2 ^ a < 281474976710656 → k ≤ 190 → Near (m * 2 ^ a) g → RootBits m p (k * 8388608 + g)

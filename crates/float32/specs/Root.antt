@@ -4,17 +4,17 @@ use Prim.Native.Nat.{ℕ, zero, suc, ◌+◌, ◌-◌, ◌*◌, ◌/◌, ◌^◌
 use Rattle.std.specs.Prelude.{true, false, Float}
 use Rattle.std.specs.Float.{nan, inf, fin, binary32}
 use Rattle.std.specs.Float.Ieee.{up, down, size, nearest, units}
-use Rattle.float32.specs.WholeRoot.{wholeRoot}
+use Rattle.float32.specs.WholeRoot.{whole_root}
 
 -- The root of n * 2 ^ -149, for an n above 0. In units of 2 ^ -149, the smallest value of an
 -- `f32`, it is the root of w = n * 2 ^ 149. Of its whole part r the format keeps the 24 leading
 -- digits, q, and drops k. So the root lies from q * 2 ^ k up to (q + 1) * 2 ^ k, and goes to the
 -- nearer of the two, at a tie to the even one: 4 * w is compared with the square of h, which is
 -- twice the number in the middle.
-unfoldable pub rootOfUnits : ℕ → Float
-rootOfUnits n =
+unfoldable pub root_of_units : ℕ → Float
+root_of_units n =
     let w = n * 2 ^ 149 in
-    let r = wholeRoot w in
+    let r = whole_root w in
     let k = size r - 24 in
     let q = r / 2 ^ k in
     let h = (2 * q + 1) * 2 ^ k in
@@ -22,10 +22,10 @@ rootOfUnits n =
 
 -- A number above zero is (suc m) * 2 ^ e, which is so many units of 2 ^ -149. -0 gives -0,
 -- +infinity itself, other negatives and NaN a NaN.
-unfoldable pub rootOf : Float → Float
-rootOf (fin false (suc m) e) = rootOfUnits (suc m * up e * 2 ^ 149 / down e)
-rootOf (fin s zero e) = fin s zero e
-rootOf (inf false) = inf false
-rootOf (fin true (suc m) e) = nan
-rootOf (inf true) = nan
-rootOf nan = nan
+unfoldable pub root_of : Float → Float
+root_of (fin false (suc m) e) = root_of_units (suc m * up e * 2 ^ 149 / down e)
+root_of (fin s zero e) = fin s zero e
+root_of (inf false) = inf false
+root_of (fin true (suc m) e) = nan
+root_of (inf true) = nan
+root_of nan = nan

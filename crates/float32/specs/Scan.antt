@@ -5,5 +5,5 @@ use Rattle.std.specs.Float.{nan}
 use Rattle.std.specs.Float.Ieee.Scale.{finite}
 use Rattle.laws.specs.Every.{every}
 
-unfoldable pub allFinite : List Float → Bool
-allFinite l = every (length l) (λ i. finite (get_or l i nan))
+unfoldable pub all_finite : List Float → Bool
+all_finite l = every (length l) (λ i. finite (get_or l i nan))

@@ -2,7 +2,7 @@
 ghost use Rattle.std.specs.Prelude.{◌≡◌, ◌+◌, ◌-◌, ◌<◌, ◌≤◌};
 ghost use Rattle.std.specs.Float.{binary32};
 ghost use Rattle.std.specs.Float.Ieee.{of_bits};
-ghost use Rattle.float32.specs.Root.{rootOf};
+ghost use Rattle.float32.specs.Root.{root_of};
 ghost use Rattle.float32.specs.Near.{RootBits};
 
 use crate::near::{guess, near_root};
@@ -20,7 +20,7 @@ fn root_bits(m: u64, o: u64, k: u32) -> u32
 // The root of the value with the pattern b: a zero, or a number below the normal ones.
 fn root_of_small(b: u32) -> f32
     requires { b < 0x0080_0000 }
-    ensures { result ≡ rootOf (of_bits binary32 b) }
+    ensures { result ≡ root_of (of_bits binary32 b) }
 {
     if b == 0 {
         return 0.0;
@@ -32,7 +32,7 @@ fn root_of_small(b: u32) -> f32
 // The root of the value with the pattern b: a normal number above zero.
 fn root_of_normal(b: u32) -> f32
     requires { (0x0080_0000 ≤ b) × (b < 0x7f80_0000) }
-    ensures { result ≡ rootOf (of_bits binary32 b) }
+    ensures { result ≡ root_of (of_bits binary32 b) }
 {
     f32::from_bits(root_bits(
         (b % 8388608 + 8388608) as u64,
@@ -44,7 +44,7 @@ fn root_of_normal(b: u32) -> f32
 // The root of the value with the pattern b: -0, the infinity, or a number below zero.
 fn root_of_rest(b: u32) -> f32
     requires { 0x7f80_0000 ≤ b }
-    ensures { result ≡ rootOf (of_bits binary32 b) }
+    ensures { result ≡ root_of (of_bits binary32 b) }
 {
     if b == 0x8000_0000 {
         return -0.0;
@@ -57,7 +57,7 @@ fn root_of_rest(b: u32) -> f32
 
 // IEEE 754's square root.
 pub fn root(x: f32) -> f32
-    ensures { result ≡ rootOf x }
+    ensures { result ≡ root_of x }
 {
     // Code can read the pattern of no NaN.
     if x != x {

@@ -5,7 +5,7 @@ use Prim.Native.Nat.{ℕ, ◌+◌, ◌*◌, ◌≤◌}
 use borrow.Author.Tests.{leb-true}
 use lib.Dec.{leb}
 use Rattle.laws.specs.Conjunction.{both_true}
-use Rattle.kinds.specs.Limits.{between, segmentCountPermitted, loopPermitted, divisionsPermitted, longitudesPermitted, layersPermitted}
+use Rattle.kinds.specs.Limits.{between, segment_count_permitted, loop_permitted, divisions_permitted, longitudes_permitted, layers_permitted}
 use Rattle.kinds.specs.Kinds.{permitted}
 use Rattle.kinds.specs.declared.topology.Topology.{Topology}
 use Rattle.kinds.specs.declared.topology.Topology.TheVariants.{Ribbon, Tube, Capsule, Torus, ClosedCylinder}
@@ -28,11 +28,11 @@ Bounds (ClosedCylinder k) = Between 3 256 k.divisions × Between 1 4096 k.layers
 pub bounds : (t : Topology) → permitted t ≡ true → Bounds t
 bounds (Ribbon k) h = between-true 1 4095 k.segments h
 bounds (Tube k) h =
-    let t = both_true (divisionsPermitted k.divisions) (segmentCountPermitted k.segments) h in
+    let t = both_true (divisions_permitted k.divisions) (segment_count_permitted k.segments) h in
     (between-true 3 256 k.divisions t.0, between-true 1 4095 k.segments t.1)
 bounds (Capsule k) h =
-    let t = both_true (divisionsPermitted k.divisions) (segmentCountPermitted k.segments && longitudesPermitted k.longitudes k.segments) h in
-    let u = both_true (segmentCountPermitted k.segments) (longitudesPermitted k.longitudes k.segments) t.1 in
+    let t = both_true (divisions_permitted k.divisions) (segment_count_permitted k.segments && longitudes_permitted k.longitudes k.segments) h in
+    let u = both_true (segment_count_permitted k.segments) (longitudes_permitted k.longitudes k.segments) t.1 in
     let v = both_true (leb k.longitudes 256) (leb 3 (2 * k.longitudes + k.segments)) u.1 in (
       between-true 3 256 k.divisions t.0,
       between-true 1 4095 k.segments u.0,
@@ -40,8 +40,8 @@ bounds (Capsule k) h =
       leb-true 3 (2 * k.longitudes + k.segments) v.1,
     )
 bounds (Torus k) h =
-    let t = both_true (divisionsPermitted k.divisions) (loopPermitted k.vertices) h in
+    let t = both_true (divisions_permitted k.divisions) (loop_permitted k.vertices) h in
     (between-true 3 256 k.divisions t.0, between-true 3 4096 k.vertices t.1)
 bounds (ClosedCylinder k) h =
-    let t = both_true (divisionsPermitted k.divisions) (layersPermitted k.layers) h in
+    let t = both_true (divisions_permitted k.divisions) (layers_permitted k.layers) h in
     (between-true 3 256 k.divisions t.0, between-true 1 4096 k.layers t.1)

@@ -4,7 +4,7 @@ use mathlib.Core.List.{List, [], ◌∷◌, ◌++◌}
 use Prim.Native.Nat.{ℕ, zero, suc, ◌+◌}
 use Rattle.laws.specs.Blocks.{blocks, blocks-cong}
 use Rattle.surface.specs.Triangles.{Triangle, triangle, shift}
-use Rattle.surface.specs.Quads.{quadOf}
+use Rattle.surface.specs.Quads.{quad_of}
 use Rattle.surface.specs.declared.quads.Split.{Split}
 use Rattle.surface.specs.declared.quads.Split.TheVariants.{Capped, Torus, Tube, Ribbon}
 
@@ -16,7 +16,7 @@ shift-blocks : (first n : ℕ) (f : ℕ → List Triangle) → shift first (bloc
 shift-blocks first zero f = refl
 shift-blocks first (suc n) f = shift-append first (blocks n f) (f n) ∙ ap (λ (l : List Triangle). l ++ shift first (f n)) (shift-blocks first n f)
 
-shift-quad : (split : Split) (first a b d e : ℕ) → shift first (quadOf split a b d e) ≡ quadOf split (first + a) (first + b) (first + d) (first + e)
+shift-quad : (split : Split) (first a b d e : ℕ) → shift first (quad_of split a b d e) ≡ quad_of split (first + a) (first + b) (first + d) (first + e)
 shift-quad Capped first a b d e = refl
 shift-quad Torus first a b d e = refl
 shift-quad Tube first a b d e = refl
@@ -26,13 +26,13 @@ shift-quad Ribbon first a b d e = refl
 -- added.
 pub shift-quads : (split : Split) (first m n : ℕ) (a b d e a' b' d' e' : ℕ → ℕ → ℕ)
     → ((g i : ℕ) → first + a g i ≡ a' g i) → ((g i : ℕ) → first + b g i ≡ b' g i) → ((g i : ℕ) → first + d g i ≡ d' g i) → ((g i : ℕ) → first + e g i ≡ e' g i)
-    → shift first (blocks m (λ g. blocks n (λ i. quadOf split (a g i) (b g i) (d g i) (e g i))))
-    ≡ blocks m (λ g. blocks n (λ i. quadOf split (a' g i) (b' g i) (d' g i) (e' g i)))
+    → shift first (blocks m (λ g. blocks n (λ i. quad_of split (a g i) (b g i) (d g i) (e g i))))
+    ≡ blocks m (λ g. blocks n (λ i. quad_of split (a' g i) (b' g i) (d' g i) (e' g i)))
 shift-quads split first m n a b d e a' b' d' e' ea eb ed ee =
     shift-blocks first m _
     ∙ blocks-cong m _ _ (λ g hg.
     shift-blocks first n _
-    ∙ blocks-cong n _ _ (λ i hi. shift-quad split first (a g i) (b g i) (d g i) (e g i) ∙ (λ j. quadOf split (ea g i j) (eb g i j) (ed g i j) (ee g i j))))
+    ∙ blocks-cong n _ _ (λ i hi. shift-quad split first (a g i) (b g i) (d g i) (e g i) ∙ (λ j. quad_of split (ea g i j) (eb g i j) (ed g i j) (ee g i j))))
 
 -- The same of a fan.
 pub shift-fan : (first n p p' : ℕ) (x y x' y' : ℕ → ℕ) → first + p ≡ p' → ((i : ℕ) → first + x i ≡ x' i) → ((i : ℕ) → first + y i ≡ y' i)

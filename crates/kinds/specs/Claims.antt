@@ -3,7 +3,7 @@
 use Rattle.std.specs.Prelude.{◌≡◌, List, ℕ, ◌+◌, ◌*◌, ◌≤◌, length}
 use Rattle.surface.specs.Triangles.{Triangle}
 use Rattle.edges.specs.Edges.{Edge, edges, unmatched, NoneTwice, AllMatched, Within}
-use Rattle.kinds.specs.Kinds.{vertexCount, triangleCount}
+use Rattle.kinds.specs.Kinds.{vertex_count, triangle_count}
 use Rattle.kinds.specs.declared.topology.Topology.{Topology}
 use Rattle.kinds.specs.declared.topology.Topology.TheVariants.{Ribbon, Tube, Capsule, Torus, ClosedCylinder}
 
@@ -28,10 +28,10 @@ Enough (ClosedCylinder k) = (3 ≤ k.divisions) × (1 ≤ k.layers)
 -- What is claimed of a list ts of the body's triangles whose first vertex is numbered `first`.
 pub record Claims (t : Topology) (first : ℕ) (ts : List Triangle) : Type 0 where
   -- "no index lies outside it"
-  pub inside : Within first (first + vertexCount t) ts
+  pub inside : Within first (first + vertex_count t) ts
   -- "no directed edge is used twice"
   pub once : NoneTwice (edges ts)
   -- which edges have their reverse, kind by kind
   pub reverses : Reverses t (edges ts)
   -- exactly as many triangles as are counted
-  pub triangles : length ts ≡ triangleCount t
+  pub triangles : length ts ≡ triangle_count t

@@ -1,7 +1,7 @@
 ghost use Rattle.std.specs.Prelude.{◌≡◌, true};
-ghost use Rattle.kinds.specs.Kinds.{permitted, vertexCount, triangleCount, Summarises, surfaceOf};
-ghost use Rattle.kinds.specs.Kinds.{steps_of, layersOf};
-ghost use Rattle.kinds.specs.Limits.{longitudesPermitted};
+ghost use Rattle.kinds.specs.Kinds.{permitted, vertex_count, triangle_count, Summarises, surface_of};
+ghost use Rattle.kinds.specs.Kinds.{steps_of, layers_of};
+ghost use Rattle.kinds.specs.Limits.{longitudes_permitted};
 ghost use Rattle.kinds.specs.declared.topology.Topology.{Topology};
 
 use crate::limits;
@@ -48,7 +48,7 @@ impl Capsule {
 
     // Whether the longitude divisions are permitted, alone and together with the segments.
     pub fn are_longitudes_permitted(longitudes: u32, segments: u16) -> bool
-        ensures { result ≡ longitudesPermitted longitudes segments }
+        ensures { result ≡ longitudes_permitted longitudes segments }
     {
         longitudes <= Self::MOST_LONGITUDES as u32
             && Self::LEAST_STEPS <= 2 * longitudes + segments as u32
@@ -64,7 +64,7 @@ impl Capsule {
     // The layers of quads between the caps; none where there are too few steps, so that the counts
     // are defined for every capsule.
     fn layers(self) -> u32
-        ensures { result ≡ layersOf self }
+        ensures { result ≡ layers_of self }
     {
         let steps = self.steps();
         if steps < 2 {
@@ -74,13 +74,13 @@ impl Capsule {
     }
 
     pub fn vertex_count(self) -> u64
-        ensures { result ≡ vertexCount (Topology.Capsule self) }
+        ensures { result ≡ vertex_count (Topology.Capsule self) }
     {
         limits::product(self.divisions, self.layers() + 1) + 2
     }
 
     pub fn triangle_count(self) -> u64
-        ensures { result ≡ triangleCount (Topology.Capsule self) }
+        ensures { result ≡ triangle_count (Topology.Capsule self) }
     {
         2 * limits::product(self.divisions, self.layers() + 1)
     }
@@ -98,7 +98,7 @@ impl Capsule {
     // The grid of quads that the body's list is made of.
     pub(crate) fn surface(self) -> Surface
         requires { permitted (Topology.Capsule self) ≡ true }
-        ensures { result ≡ surfaceOf (Topology.Capsule self) }
+        ensures { result ≡ surface_of (Topology.Capsule self) }
     {
         let layers = self.layers();
         Surface {

@@ -1,5 +1,5 @@
 ghost use Rattle.std.specs.Prelude.{◌≡◌};
-ghost use Rattle.kinds.specs.Kinds.{permitted, vertexCount, triangleCount, Summarises, surfaceOf};
+ghost use Rattle.kinds.specs.Kinds.{permitted, vertex_count, triangle_count, Summarises, surface_of};
 ghost use Rattle.kinds.specs.declared.topology.Topology.{Topology};
 
 use crate::limits;
@@ -40,13 +40,13 @@ impl ClosedCylinder {
     }
 
     pub fn vertex_count(self) -> u64
-        ensures { result ≡ vertexCount (Topology.ClosedCylinder self) }
+        ensures { result ≡ vertex_count (Topology.ClosedCylinder self) }
     {
         limits::product(self.divisions, self.layers as u32 + 1) + 2
     }
 
     pub fn triangle_count(self) -> u64
-        ensures { result ≡ triangleCount (Topology.ClosedCylinder self) }
+        ensures { result ≡ triangle_count (Topology.ClosedCylinder self) }
     {
         2 * limits::product(self.divisions, self.layers as u32 + 1)
     }
@@ -63,7 +63,7 @@ impl ClosedCylinder {
 
     // The grid of quads that the body's list is made of.
     pub(crate) fn surface(self) -> Surface
-        ensures { result ≡ surfaceOf (Topology.ClosedCylinder self) }
+        ensures { result ≡ surface_of (Topology.ClosedCylinder self) }
     {
         Surface {
             split: Split::Capped,

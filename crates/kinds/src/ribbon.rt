@@ -1,5 +1,5 @@
 ghost use Rattle.std.specs.Prelude.{◌≡◌};
-ghost use Rattle.kinds.specs.Kinds.{permitted, vertexCount, triangleCount, Summarises, surfaceOf};
+ghost use Rattle.kinds.specs.Kinds.{permitted, vertex_count, triangle_count, Summarises, surface_of};
 ghost use Rattle.kinds.specs.declared.topology.Topology.{Topology};
 
 use crate::limits;
@@ -28,13 +28,13 @@ impl Ribbon {
     }
 
     pub fn vertex_count(self) -> u64
-        ensures { result ≡ vertexCount (Topology.Ribbon self) }
+        ensures { result ≡ vertex_count (Topology.Ribbon self) }
     {
         2 * (self.segments as u64 + 1)
     }
 
     pub fn triangle_count(self) -> u64
-        ensures { result ≡ triangleCount (Topology.Ribbon self) }
+        ensures { result ≡ triangle_count (Topology.Ribbon self) }
     {
         2 * self.segments as u64
     }
@@ -51,7 +51,7 @@ impl Ribbon {
 
     // The grid of quads that the body's list is made of.
     pub(crate) fn surface(self) -> Surface
-        ensures { result ≡ surfaceOf (Topology.Ribbon self) }
+        ensures { result ≡ surface_of (Topology.Ribbon self) }
     {
         Surface {
             split: Split::Ribbon,

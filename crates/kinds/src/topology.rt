@@ -1,9 +1,9 @@
 ghost use Rattle.std.specs.Prelude.{◌≡◌, true, ◌+◌, ◌*◌, ◌≤◌, length};
 ghost use Rattle.laws.specs.Overwrite.{overwrite, placed};
-ghost use Rattle.surface.specs.Limits.{mostInAll};
+ghost use Rattle.surface.specs.Limits.{most_in_all};
 ghost use Rattle.surface.specs.Triangles.{flatten, shift};
-ghost use Rattle.kinds.specs.Kinds.{permitted, vertexCount, triangleCount, Summarises};
-ghost use Rattle.kinds.specs.Kinds.{trianglesOf, surfaceOf, writable};
+ghost use Rattle.kinds.specs.Kinds.{permitted, vertex_count, triangle_count, Summarises};
+ghost use Rattle.kinds.specs.Kinds.{triangles_of, surface_of, writable};
 
 use crate::capsule::Capsule;
 use crate::closed_cylinder::ClosedCylinder;
@@ -43,13 +43,13 @@ impl Topology {
     }
 
     pub fn vertex_count(self) -> u64
-        ensures { result ≡ vertexCount self }
+        ensures { result ≡ vertex_count self }
     {
         self.summary().vertices
     }
 
     pub fn triangle_count(self) -> u64
-        ensures { result ≡ triangleCount self }
+        ensures { result ≡ triangle_count self }
     {
         self.summary().triangles
     }
@@ -57,7 +57,7 @@ impl Topology {
     // The grid of quads that the body's list is made of.
     fn surface(self) -> Surface
         requires { permitted self ≡ true }
-        ensures { result ≡ surfaceOf self }
+        ensures { result ≡ surface_of self }
     {
         match self {
             Topology::Ribbon(k) => k.surface(),
@@ -71,10 +71,10 @@ impl Topology {
     // Writes the body's triangles, with `first` added to each index, to the front of `out`.
     pub fn put_triangles(self, first: u32, out: &mut [u32])
         requires permission { permitted self ≡ true }
-        requires numbers { first + vertexCount self ≤ mostInAll }
-        requires within { 3 * triangleCount self ≤ length out.old }
+        requires numbers { first + vertex_count self ≤ most_in_all }
+        requires within { 3 * triangle_count self ≤ length out.old }
         ensures { out.new
-            ≡ overwrite 0 (flatten (shift first (trianglesOf self))) out.old }
+            ≡ overwrite 0 (flatten (shift first (triangles_of self))) out.old }
     {
         self.surface().put_triangles(first, out);
     }
@@ -85,7 +85,7 @@ impl Topology {
     pub fn write_triangles(self, first: u32, out: &mut [u32]) -> bool
         ensures answer { result ≡ writable self first (length out.old) }
         ensures written { out.new
-            ≡ placed result (flatten (shift first (trianglesOf self))) out.old }
+            ≡ placed result (flatten (shift first (triangles_of self))) out.old }
     {
         if self.is_permitted() {
             return self.surface().write_triangles(first, out);

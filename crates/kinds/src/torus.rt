@@ -1,5 +1,5 @@
 ghost use Rattle.std.specs.Prelude.{◌≡◌};
-ghost use Rattle.kinds.specs.Kinds.{permitted, vertexCount, triangleCount, Summarises, surfaceOf};
+ghost use Rattle.kinds.specs.Kinds.{permitted, vertex_count, triangle_count, Summarises, surface_of};
 ghost use Rattle.kinds.specs.declared.topology.Topology.{Topology};
 
 use crate::limits;
@@ -38,13 +38,13 @@ impl Torus {
     }
 
     pub fn vertex_count(self) -> u64
-        ensures { result ≡ vertexCount (Topology.Torus self) }
+        ensures { result ≡ vertex_count (Topology.Torus self) }
     {
         limits::product(self.divisions, self.vertices as u32)
     }
 
     pub fn triangle_count(self) -> u64
-        ensures { result ≡ triangleCount (Topology.Torus self) }
+        ensures { result ≡ triangle_count (Topology.Torus self) }
     {
         2 * limits::product(self.divisions, self.vertices as u32)
     }
@@ -61,7 +61,7 @@ impl Torus {
 
     // The grid of quads that the body's list is made of.
     pub(crate) fn surface(self) -> Surface
-        ensures { result ≡ surfaceOf (Topology.Torus self) }
+        ensures { result ≡ surface_of (Topology.Torus self) }
     {
         Surface {
             split: Split::Torus,

@@ -1,5 +1,5 @@
 ghost use Rattle.std.specs.Prelude.{◌≡◌};
-ghost use Rattle.kinds.specs.Kinds.{permitted, vertexCount, triangleCount, Summarises, surfaceOf};
+ghost use Rattle.kinds.specs.Kinds.{permitted, vertex_count, triangle_count, Summarises, surface_of};
 ghost use Rattle.kinds.specs.declared.topology.Topology.{Topology};
 
 use crate::limits;
@@ -38,13 +38,13 @@ impl Tube {
     }
 
     pub fn vertex_count(self) -> u64
-        ensures { result ≡ vertexCount (Topology.Tube self) }
+        ensures { result ≡ vertex_count (Topology.Tube self) }
     {
         limits::product(self.divisions, self.segments as u32 + 1)
     }
 
     pub fn triangle_count(self) -> u64
-        ensures { result ≡ triangleCount (Topology.Tube self) }
+        ensures { result ≡ triangle_count (Topology.Tube self) }
     {
         2 * limits::product(self.divisions, self.segments as u32)
     }
@@ -61,7 +61,7 @@ impl Tube {
 
     // The grid of quads that the body's list is made of.
     pub(crate) fn surface(self) -> Surface
-        ensures { result ≡ surfaceOf (Topology.Tube self) }
+        ensures { result ≡ surface_of (Topology.Tube self) }
     {
         Surface {
             split: Split::Tube,

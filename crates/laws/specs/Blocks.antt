@@ -5,7 +5,7 @@ use Rattle.std.proofs.Common.{sym, ap, ◌∙◌, append-nil, append_assoc, ⊎_
 use Rattle.std.proofs.lemmas.List.{map-append}
 use Rattle.std.proofs.Math.ListN.{get_or-append}
 use Rattle.laws.specs.Overwrite.{overwrite, written_behind}
-use Rattle.laws.specs.Sums.{sumBelow, sum-within}
+use Rattle.laws.specs.Sums.{sum_below, sum-within}
 
 module _ {ℓ} {A : Type ℓ} where
   -- f 0, then f 1, up to f (n - 1), one after the other. It grows at its end, as the loop that
@@ -55,32 +55,32 @@ module _ {ℓ} {A : Type ℓ} where
       ∙ append_assoc (blocks m f) (blocks k (λ j. f (m + j))) (f (m + k))
 
   -- Element k of block i: it stands k past the blocks before it, whatever their lengths are.
-  pub length-sum : (n : ℕ) (f : ℕ → List A) → length (blocks n f) ≡ sumBelow n (λ k. length (f k))
+  pub length-sum : (n : ℕ) (f : ℕ → List A) → length (blocks n f) ≡ sum_below n (λ k. length (f k))
   length-sum zero f = refl
   length-sum (suc n) f = length-append (blocks n f) (f n) ∙ ap (λ (k : ℕ). k + length (f n)) (length-sum n f)
 
-  pub getD-block : (n : ℕ) (f : ℕ → List A) (i k p : ℕ) (d : A) → i < n → k < length (f i)
-      → p ≡ sumBelow i (λ j. length (f j)) + k
+  pub get_or-block : (n : ℕ) (f : ℕ → List A) (i k p : ℕ) (d : A) → i < n → k < length (f i)
+      → p ≡ sum_below i (λ j. length (f j)) + k
       → get_or (blocks n f) p d ≡ get_or (f i) k d
-  getD-block zero f i k p d h l is = absurd (not-suc-le-zero h)
-  getD-block (suc n) f i k p d h l is =
+  get_or-block zero f i k p d h l is = absurd (not-suc-le-zero h)
+  get_or-block (suc n) f i k p d h l is =
       let size : ℕ → ℕ = λ j. length (f j) in
       let before = length-sum n f in
       ⊎_elim
       (λ last. ap (λ (m : ℕ). get_or (blocks n f ++ f n) m d)
-      (is ∙ (λ j. sumBelow (last j) size + k) ∙ ap (λ (m : ℕ). m + k) (sym before))
+      (is ∙ (λ j. sum_below (last j) size + k) ∙ ap (λ (m : ℕ). m + k) (sym before))
       ∙ get_or-append-add (blocks n f) (f n) k d
       ∙ ap (λ (m : ℕ). get_or (f m) k d) (sym last))
       (λ lower. get_or-append (blocks n f) (f n) d p (omega (arith, before, sum-within size i n lower))
-      ∙ getD-block n f i k p d lower l is)
+      ∙ get_or-block n f i k p d lower l is)
       (eq-or-lt_of_le (le_of_suc-le-suc h))
 
   -- the same where each block has c elements
-  pub getD-blocks : (c n : ℕ) (f : ℕ → List A) (i k p : ℕ) (d : A) → ((j : ℕ) → length (f j) ≡ c) → i < n → k < c
+  pub get_or-blocks : (c n : ℕ) (f : ℕ → List A) (i k p : ℕ) (d : A) → ((j : ℕ) → length (f j) ≡ c) → i < n → k < c
       → p ≡ i * c + k
       → get_or (blocks n f) p d ≡ get_or (f i) k d
-  getD-blocks c n f i k p d sized h l is =
-      getD-block n f i k p d h (omega (arith, sized i))
+  get_or-blocks c n f i k p d sized h l is =
+      get_or-block n f i k p d h (omega (arith, sized i))
       (is ∙ ap (λ (m : ℕ). m + k) (sym (length-blocks c i f (λ j _. sized j)) ∙ length-sum i f))
 
   -- a list is its elements, one after the other

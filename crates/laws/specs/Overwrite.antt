@@ -74,22 +74,22 @@ module _ {ℓ} {A : Type ℓ} where
   three-stores p a b c old = simp towards_suc (stores p (a ∷ b ∷ c ∷ []) old)
 
   -- each element after a write: before it, in it, past it
-  pub getD-before : (at : ℕ) (new old : List A) (k : ℕ) (d : A) → k < at → get_or (overwrite at new old) k d ≡ get_or old k d
-  getD-before zero new old k d h = absurd (not-suc-le-zero h)
-  getD-before (suc at) new [] k d h = refl
-  getD-before (suc at) new (x ∷ old) zero d h = refl
-  getD-before (suc at) new (x ∷ old) (suc k) d h = getD-before at new old k d (le_of_suc-le-suc h)
+  pub get_or-before : (at : ℕ) (new old : List A) (k : ℕ) (d : A) → k < at → get_or (overwrite at new old) k d ≡ get_or old k d
+  get_or-before zero new old k d h = absurd (not-suc-le-zero h)
+  get_or-before (suc at) new [] k d h = refl
+  get_or-before (suc at) new (x ∷ old) zero d h = refl
+  get_or-before (suc at) new (x ∷ old) (suc k) d h = get_or-before at new old k d (le_of_suc-le-suc h)
 
-  pub getD-within : (at : ℕ) (new old : List A) (k : ℕ) (d : A) → k < length new → at + k < length old → get_or (overwrite at new old) (at + k) d ≡ get_or new k d
-  getD-within at new [] k d h r = absurd (not-suc-le-zero r)
-  getD-within zero [] (x ∷ old) k d h r = absurd (not-suc-le-zero h)
-  getD-within zero (y ∷ new) (x ∷ old) zero d h r = refl
-  getD-within zero (y ∷ new) (x ∷ old) (suc k) d h r =
+  pub get_or-within : (at : ℕ) (new old : List A) (k : ℕ) (d : A) → k < length new → at + k < length old → get_or (overwrite at new old) (at + k) d ≡ get_or new k d
+  get_or-within at new [] k d h r = absurd (not-suc-le-zero r)
+  get_or-within zero [] (x ∷ old) k d h r = absurd (not-suc-le-zero h)
+  get_or-within zero (y ∷ new) (x ∷ old) zero d h r = refl
+  get_or-within zero (y ∷ new) (x ∷ old) (suc k) d h r =
       ap (λ (i : ℕ). get_or (y ∷ overwrite zero new old) i d) (add-suc zero k)
-      ∙ getD-within zero new old k d (le_of_suc-le-suc h) (le_of_suc-le-suc (subst (λ (i : ℕ). i < suc (length old)) (add-suc zero k) r))
-  getD-within (suc at) new (x ∷ old) k d h r =
+      ∙ get_or-within zero new old k d (le_of_suc-le-suc h) (le_of_suc-le-suc (subst (λ (i : ℕ). i < suc (length old)) (add-suc zero k) r))
+  get_or-within (suc at) new (x ∷ old) k d h r =
       ap (λ (i : ℕ). get_or (x ∷ overwrite at new old) i d) (suc-add at k)
-      ∙ getD-within at new old k d h (le_of_suc-le-suc (subst (λ (i : ℕ). i < suc (length old)) (suc-add at k) r))
+      ∙ get_or-within at new old k d h (le_of_suc-le-suc (subst (λ (i : ℕ). i < suc (length old)) (suc-add at k) r))
 
   pub get_d_past : (at : ℕ) (new old : List A) (k : ℕ) (d : A) → at + length new ≤ k → get_or (overwrite at new old) k d ≡ get_or old k d
   get_d_past at new [] k d h = refl

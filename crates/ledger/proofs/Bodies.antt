@@ -9,40 +9,40 @@ use borrow.Author.Tests.{eqb-true}
 use lib.Dec.{eqb}
 use lib.ListN.{length}
 use Rattle.laws.specs.Conjunction.{both_true}
-use Rattle.float32.specs.Scan.{allFinite}
+use Rattle.float32.specs.Scan.{all_finite}
 use Rattle.surface.specs.Triangles.{Triangle, triangle, flatten, shift}
-use Rattle.kinds.specs.Kinds.{permitted, vertexCount, trianglesOf}
+use Rattle.kinds.specs.Kinds.{permitted, vertex_count, triangles_of}
 use Rattle.kinds.specs.Limits.{between}
 use Rattle.kinds.specs.Claims.{Claims}
 use Rattle.kinds.specs.declared.topology.Topology.{Topology}
 use Rattle.kinds.specs.declared.topology.Topology.TheVariants as topology
 use Rattle.kinds.proofs.Bounds.{bounds}
 use Rattle.kinds.proofs.Claims.{permitted-claims, capsule-triangles}
-use Rattle.curve.specs.Segments.{verticesIn}
+use Rattle.curve.specs.Segments.{vertices_in}
 use Rattle.answers.specs.Answers.{AllPermitted}
-use Rattle.descriptions.specs.Descriptions.{topologyOf}
-use Rattle.descriptions.specs.Refusals.{checkedTests}
-use Rattle.descriptions.specs.KindNumbers.{kindNumber, divisionsOf, lastKind}
+use Rattle.descriptions.specs.Descriptions.{topology_of}
+use Rattle.descriptions.specs.Refusals.{checked_tests}
+use Rattle.descriptions.specs.KindNumbers.{kind_number, divisions_of, last_kind}
 use Rattle.descriptions.specs.declared.description.Description.{Description}
 use Rattle.descriptions.specs.declared.description.Description.TheVariants.{Ribbon, Tube, Capsule}
 use Rattle.descriptions.specs.declared.description.Description.TheVariants.{Torus, ClosedCylinder, SeamlessTorus}
 use Rattle.descriptions.proofs.Shapes.{shape-permitted, checked-shape}
-use Rattle.bodies.specs.Bodies.{twistFinite, floatsFinite}
+use Rattle.bodies.specs.Bodies.{twist_finite, floats_finite}
 use Rattle.bodies.proofs.Lengths.{length-vertices}
 use Rattle.shared_set.specs.Additions.{Addition}
-use Rattle.shared_set.specs.Bodies.{Body, vertexCountIn, bodyAlone}
-use Rattle.ledger.specs.Shapes.{kindFits, divisionsWith, Shaped, HasBest, Added}
+use Rattle.shared_set.specs.Bodies.{Body, vertex_count_in, body_alone}
+use Rattle.ledger.specs.Shapes.{kind_fits, divisions_with, Shaped, HasBest, Added}
 
 -- the kind and n of a description fit its numbers
-kind_fits : (d : Description) (N : ℕ) → kindFits (topologyOf d N) (kindNumber d) ≡ true
-kind_fits (Ribbon w) N = refl
-kind_fits (Tube n r) N = refl
-kind_fits (Capsule n L r) N = refl
-kind_fits (Torus n r) N = refl
-kind_fits (ClosedCylinder n S centred r l) N = refl
-kind_fits (SeamlessTorus n r) N = refl
+kind_fits-topology : (d : Description) (N : ℕ) → kind_fits (topology_of d N) (kind_number d) ≡ true
+kind_fits-topology (Ribbon w) N = refl
+kind_fits-topology (Tube n r) N = refl
+kind_fits-topology (Capsule n L r) N = refl
+kind_fits-topology (Torus n r) N = refl
+kind_fits-topology (ClosedCylinder n S centred r l) N = refl
+kind_fits-topology (SeamlessTorus n r) N = refl
 
-divisions-same : (d : Description) (N : ℕ) → divisionsOf d ≡ divisionsWith (topologyOf d N)
+divisions-same : (d : Description) (N : ℕ) → divisions_of d ≡ divisions_with (topology_of d N)
 divisions-same (Ribbon w) N = refl
 divisions-same (Tube n r) N = refl
 divisions-same (Capsule n L r) N = refl
@@ -51,18 +51,18 @@ divisions-same (ClosedCylinder n S centred r l) N = refl
 divisions-same (SeamlessTorus n r) N = refl
 
 capsule-counted : (t : Topology) → permitted t ≡ true → (n L m : ℕ)
-    → t ≡ topology.Capsule (record { divisions = n; longitudes = L; segments = m }) → length (trianglesOf t) ≡ 2 * n * (2 * L + m - 1)
+    → t ≡ topology.Capsule (record { divisions = n; longitudes = L; segments = m }) → length (triangles_of t) ≡ 2 * n * (2 * L + m - 1)
 capsule-counted t h n L m e =
     let capsule = topology.Capsule (record { divisions = n; longitudes = L; segments = m }) in
-    subst (λ (x : Topology). permitted x ≡ true → length (trianglesOf x) ≡ 2 * n * (2 * L + m - 1)) (sym e)
+    subst (λ (x : Topology). permitted x ≡ true → length (triangles_of x) ≡ 2 * n * (2 * L + m - 1)) (sym e)
     (λ p. capsule-triangles n L m (bounds capsule p).3) h
 
 -- any body with the kind, n, triangles and number of floats that permitted numbers give
-pub shaped : (t : Topology) (b : Body) (first : ℕ) → permitted t ≡ true → kindFits t b.kind ≡ true
-    → b.divisions ≡ divisionsWith t → b.triangles ≡ trianglesOf t → length b.vertices ≡ 3 * vertexCount t
-    → allFinite b.vertices ≡ true → Shaped first b
+pub shaped : (t : Topology) (b : Body) (first : ℕ) → permitted t ≡ true → kind_fits t b.kind ≡ true
+    → b.divisions ≡ divisions_with t → b.triangles ≡ triangles_of t → length b.vertices ≡ 3 * vertex_count t
+    → all_finite b.vertices ≡ true → Shaped first b
 shaped t b first h kind divisions triangles sized finite =
-    let counted : vertexCountIn b ≡ vertexCount t = ap (λ (k : ℕ). k / 3) sized ∙ omega arith in
+    let counted : vertex_count_in b ≡ vertex_count t = ap (λ (k : ℕ). k / 3) sized ∙ omega arith in
     record {
       numbers = t;
       allowed = h;
@@ -77,34 +77,34 @@ shaped t b first h kind divisions triangles sized finite =
     }
 
 -- a body alone, of an addition that nothing refuses before 2 and that 23 does not refuse
-pub added : (a : Addition) (first : ℕ) → AllPermitted (checkedTests a.description a.curve)
-    → floatsFinite a.twist a.description a.curve ≡ true → HasBest a → Added first (bodyAlone a)
+pub added : (a : Addition) (first : ℕ) → AllPermitted (checked_tests a.description a.curve)
+    → floats_finite a.twist a.description a.curve ≡ true → HasBest a → Added first (body_alone a)
 unfolding shaped
 added a first h finite best =
     let d = a.description in
-    let N = verticesIn a.curve in
+    let N = vertices_in a.curve in
     let shape = (checked-shape d a.curve h).1 in
-    let both = both_true (twistFinite d a.curve) (allFinite (bodyAlone a).vertices) finite in
+    let both = both_true (twist_finite d a.curve) (all_finite (body_alone a).vertices) finite in
     record {
       addition = a;
       passes = h;
       scores = both.0;
       twist = best;
       alone = refl;
-      shaped = shaped (topologyOf d N) (bodyAlone a) first (shape-permitted d N shape) (kind_fits d N)
+      shaped = shaped (topology_of d N) (body_alone a) first (shape-permitted d N shape) (kind_fits-topology d N)
           (divisions-same d N) refl (length-vertices a.twist d a.curve shape) both.1;
       same = refl;
     }
 
 -- a kind is in a table's range if it is one that is, and a torus's kind is one of two
-between-one : (kind one : ℕ) → between 1 lastKind one ≡ true → eqb kind one ≡ true → between 1 lastKind kind ≡ true
-between-one kind one h e = ap (between 1 lastKind) (eqb-true kind one e) ∙ h
+between-one : (kind one : ℕ) → between 1 last_kind one ≡ true → eqb kind one ≡ true → between 1 last_kind kind ≡ true
+between-one kind one h e = ap (between 1 last_kind) (eqb-true kind one e) ∙ h
 
 either : {P : Type 0} (a b : Bool) → (a ≡ true → P) → (b ≡ true → P) → a || b ≡ true → P
 either true b f g h = f refl
 either false b f g h = g h
 
-kind-between : (t : Topology) (kind : ℕ) → kindFits t kind ≡ true → between 1 lastKind kind ≡ true
+kind-between : (t : Topology) (kind : ℕ) → kind_fits t kind ≡ true → between 1 last_kind kind ≡ true
 kind-between (topology.Ribbon k) kind h = between-one kind 1 refl h
 kind-between (topology.Tube k) kind h = between-one kind 2 refl h
 kind-between (topology.Capsule k) kind h = between-one kind 3 refl h
@@ -113,7 +113,7 @@ kind-between (topology.Torus k) kind h =
 kind-between (topology.ClosedCylinder k) kind h = between-one kind 5 refl h
 
 -- its kind is one that a table may have
-pub kind-known : (first : ℕ) (b : Body) → Shaped first b → between 1 lastKind b.kind ≡ true
+pub kind-known : (first : ℕ) (b : Body) → Shaped first b → between 1 last_kind b.kind ≡ true
 kind-known first b s = kind-between s.numbers b.kind s.kind
 
 -- three numbers a triangle

@@ -9,18 +9,18 @@ use native.Mathlib.Omega.{arith}
 use borrow.Author.Tests.{eq-eqb}
 use lib.ListN.{length}
 use Rattle.laws.specs.Parts.{part}
-use Rattle.laws.specs.Overwrite.{overwrite, length-overwrite, getD-within, overwrite-append}
+use Rattle.laws.specs.Overwrite.{overwrite, length-overwrite, get_or-within, overwrite-append}
 use Rattle.laws.specs.Overlaps.{overwrite-swap}
 use Rattle.laws.specs.Lent.{part-written}
 use Rattle.laws.specs.Every.{every}
-use Rattle.set_table.specs.Entries.{entryWords, words_of, entryFrom, tableWords, entryIn, entriesIn, allWords}
+use Rattle.set_table.specs.Entries.{entry_words, words_of, entry_from, table_words, entry_in, entries_in, all_words}
 use Rattle.set_table.specs.Room.{lengths}
-use Rattle.set_table.specs.Table.{bodiesIn, verticesBefore, trianglesBefore, entrySound, soundAt, undamaged, totalsIn}
+use Rattle.set_table.specs.Table.{bodies_in, vertices_before, triangles_before, entry_sound, sound_at, undamaged, totals_in}
 use Rattle.set_table.specs.declared.totals.Totals.{Totals}
 use Rattle.set_table.proofs.Tables.{reads-undamaged}
 use Rattle.set_table.proofs.Words.{all-words-next}
 use Rattle.shared_set.specs.Bodies.{Body, entry_of}
-use Rattle.ledger.specs.Ledger.{Ledger, empty, then, bodyCount, vertexSum, triangleSum, totalsOf, entriesOf, setTable}
+use Rattle.ledger.specs.Ledger.{Ledger, empty, then, body_count, vertex_sum, triangle_sum, totals_of, entries_of, set_table}
 use Rattle.ledger.specs.Shapes.{EachShaped}
 use Rattle.ledger.specs.Holds.{Limited}
 use Rattle.ledger.proofs.Bodies.{kind-known}
@@ -29,7 +29,7 @@ use Rattle.ledger.proofs.Sizes.{length-table}
 -- the entries of T are the ledger's
 abbrev Begins : Ledger → List ℕ → Type 0
 Begins empty T = Unit
-Begins (then L b) T = Begins L T × (entryIn T (bodyCount L) ≡ entry_of (totalsOf L) b)
+Begins (then L b) T = Begins L T × (entry_in T (body_count L) ≡ entry_of (totals_of L) b)
 
 -- a part of what is written, whatever comes before and after it
 part-of-write : {A : Type 0} (front mid more old : List A) (at count : ℕ) → at ≡ length front → length mid ≡ count → at + count ≤ length old
@@ -45,68 +45,68 @@ part-of-write front mid more old at count is sized room =
     let same = length-overwrite (at + length mid) more begun ∙ length-overwrite 0 front old in
     ap (part at count) split ∙ part-written at count mid (overwrite (at + length mid) more begun) sized (omega (arith, same))
 
-begins : (L : Ledger) (n : ℕ) (more T : List ℕ) → tableWords (bodyCount L) ≤ length T
-    → Begins L (overwrite 0 (n ∷ (allWords (entriesOf L) ++ more)) T)
+begins : (L : Ledger) (n : ℕ) (more T : List ℕ) → table_words (body_count L) ≤ length T
+    → Begins L (overwrite 0 (n ∷ (all_words (entries_of L) ++ more)) T)
 begins empty n more T room = tt
 begins (then L b) n more T room =
-    let e = entry_of (totalsOf L) b in
-    let words = allWords (entriesOf L) in
-    let list : (allWords (entriesOf L ++ (e ∷ [])) ++ more) ≡ words ++ (words_of e ++ more) =
-    ap (λ (l : List ℕ). l ++ more) (all-words-next (entriesOf L) e) ∙ append_assoc words (words_of e) more in
-    let here = part-of-write (n ∷ words) (words_of e) more T (tableWords (bodyCount L)) entryWords (sym (length-table L)) refl (omega arith) in
+    let e = entry_of (totals_of L) b in
+    let words = all_words (entries_of L) in
+    let list : (all_words (entries_of L ++ (e ∷ [])) ++ more) ≡ words ++ (words_of e ++ more) =
+    ap (λ (l : List ℕ). l ++ more) (all-words-next (entries_of L) e) ∙ append_assoc words (words_of e) more in
+    let here = part-of-write (n ∷ words) (words_of e) more T (table_words (body_count L)) entry_words (sym (length-table L)) refl (omega arith) in
     subst (λ (l : List ℕ). Begins (then L b) (overwrite 0 (n ∷ l) T)) (sym list)
-    (begins L n (words_of e ++ more) T (omega arith), ap entryFrom here)
+    (begins L n (words_of e ++ more) T (omega arith), ap entry_from here)
 
-vertices-read : (L : Ledger) (T : List ℕ) → Begins L T → verticesBefore (entryIn T) (bodyCount L) ≡ vertexSum L
+vertices-read : (L : Ledger) (T : List ℕ) → Begins L T → vertices_before (entry_in T) (body_count L) ≡ vertex_sum L
 vertices-read empty T h = refl
-vertices-read (then L b) T h = ap (verticesBefore (entryIn T)) (add-one (bodyCount L)) ∙ (λ j. vertices-read L T h.0 j + (h.1 j).vertices) ∙ omega arith
+vertices-read (then L b) T h = ap (vertices_before (entry_in T)) (add-one (body_count L)) ∙ (λ j. vertices-read L T h.0 j + (h.1 j).vertices) ∙ omega arith
 
-triangles-read : (L : Ledger) (T : List ℕ) → Begins L T → trianglesBefore (entryIn T) (bodyCount L) ≡ triangleSum L
+triangles-read : (L : Ledger) (T : List ℕ) → Begins L T → triangles_before (entry_in T) (body_count L) ≡ triangle_sum L
 triangles-read empty T h = refl
-triangles-read (then L b) T h = ap (trianglesBefore (entryIn T)) (add-one (bodyCount L)) ∙ (λ j. triangles-read L T h.0 j + (h.1 j).triangles)
+triangles-read (then L b) T h = ap (triangles_before (entry_in T)) (add-one (body_count L)) ∙ (λ j. triangles-read L T h.0 j + (h.1 j).triangles)
 
-same_entries : (L : Ledger) (T : List ℕ) → Begins L T → entriesIn T (bodyCount L) ≡ entriesOf L
+same_entries : (L : Ledger) (T : List ℕ) → Begins L T → entries_in T (body_count L) ≡ entries_of L
 same_entries empty T h = refl
 same_entries (then L b) T h =
-    ap (entriesIn T) (add-one (bodyCount L)) ∙ (λ j. same_entries L T h.0 j ++ (h.1 j ∷ []))
+    ap (entries_in T) (add-one (body_count L)) ∙ (λ j. same_entries L T h.0 j ++ (h.1 j ∷ []))
 
-entry-sound : (L : Ledger) (b : Body) → EachShaped (then L b) → entrySound (entry_of (totalsOf L) b) (vertexSum L) (triangleSum L) ≡ true
-unfolding entrySound
+entry-sound : (L : Ledger) (b : Body) → EachShaped (then L b) → entry_sound (entry_of (totals_of L) b) (vertex_sum L) (triangle_sum L) ≡ true
+unfolding entry_sound
 entry-sound L b s =
-    λ j. kind-known (vertexSum L) b s.1 j && (eq-eqb (vertexSum L) (vertexSum L) refl j && eq-eqb (triangleSum L) (triangleSum L) refl j)
+    λ j. kind-known (vertex_sum L) b s.1 j && (eq-eqb (vertex_sum L) (vertex_sum L) refl j && eq-eqb (triangle_sum L) (triangle_sum L) refl j)
 
-entries-sound : (L : Ledger) (T : List ℕ) → EachShaped L → Begins L T → every (bodyCount L) (soundAt (entryIn T)) ≡ true
+entries-sound : (L : Ledger) (T : List ℕ) → EachShaped L → Begins L T → every (body_count L) (sound_at (entry_in T)) ≡ true
 entries-sound empty T s h = refl
 entries-sound (then L b) T s h =
-    let here : soundAt (entryIn T) (bodyCount L) ≡ true =
-    (λ j. entrySound (h.1 j) (vertices-read L T h.0 j) (triangles-read L T h.0 j)) ∙ entry-sound L b s in
-    ap (λ (k : ℕ). every k (soundAt (entryIn T))) (add-one (bodyCount L)) ∙ (λ j. entries-sound L T s.0 h.0 j && here j)
+    let here : sound_at (entry_in T) (body_count L) ≡ true =
+    (λ j. entry_sound (h.1 j) (vertices-read L T h.0 j) (triangles-read L T h.0 j)) ∙ entry-sound L b s in
+    ap (λ (k : ℕ). every k (sound_at (entry_in T))) (add-one (body_count L)) ∙ (λ j. entries-sound L T s.0 h.0 j && here j)
 
 module _ (L : Ledger) (T₀ : List ℕ) (vertices triangles : ℕ) (held : Limited (lengths (length T₀) vertices triangles) L) where
   abbrev T : List ℕ
-  T = overwrite 0 (setTable L) T₀
+  T = overwrite 0 (set_table L) T₀
 
   there : Begins L T
   there =
-      subst (λ (l : List ℕ). Begins L (overwrite 0 (bodyCount L ∷ l) T₀)) (append-nil (allWords (entriesOf L)))
-      (begins L (bodyCount L) [] T₀ held.entries)
+      subst (λ (l : List ℕ). Begins L (overwrite 0 (body_count L ∷ l) T₀)) (append-nil (all_words (entries_of L)))
+      (begins L (body_count L) [] T₀ held.entries)
 
-  count-read : bodiesIn T ≡ bodyCount L
-  count-read = getD-within 0 (setTable L) T₀ 0 0 (omega arith) (omega (arith, held.entries))
+  count-read : bodies_in T ≡ body_count L
+  count-read = get_or-within 0 (set_table L) T₀ 0 0 (omega arith) (omega (arith, held.entries))
 
   -- its entries are the ledger's
-  pub entries-read : entriesIn T (bodyCount L) ≡ entriesOf L
+  pub entries-read : entries_in T (body_count L) ≡ entries_of L
   entries-read = same_entries L T there
 
-  pub totals-read : totalsIn T ≡ totalsOf L
+  pub totals-read : totals_in T ≡ totals_of L
   totals-read =
-      let v = ap (verticesBefore (entryIn T)) count-read ∙ vertices-read L T there in
-      let t = ap (trianglesBefore (entryIn T)) count-read ∙ triangles-read L T there in
+      let v = ap (vertices_before (entry_in T)) count-read ∙ vertices-read L T there in
+      let t = ap (triangles_before (entry_in T)) count-read ∙ triangles-read L T there in
       (λ j. record { bodies = count-read j; vertices = v j; triangles = t j })
 
   pub not-damaged : EachShaped L → undamaged T vertices triangles ≡ true
   not-damaged s =
-      let sized = length-overwrite 0 (setTable L) T₀ in
+      let sized = length-overwrite 0 (set_table L) T₀ in
       let v = ap (λ (t : Totals). t.vertices) totals-read in
       let t = ap (λ (t : Totals). t.triangles) totals-read in
       reads-undamaged T vertices triangles
@@ -119,4 +119,4 @@ module _ (L : Ledger) (T₀ : List ℕ) (vertices triangles : ℕ) (held : Limit
         triangles = omega (arith, t, held.triangles.0);
         triangles-held = omega (arith, t, held.triangles.1);
       })
-      (ap (λ (k : ℕ). every k (soundAt (entryIn T))) count-read ∙ entries-sound L T s there)
+      (ap (λ (k : ℕ). every k (sound_at (entry_in T))) count-read ∙ entries-sound L T s there)

@@ -4,46 +4,46 @@ use mathlib.Core.List.{[], ◌∷◌, ◌++◌}
 use Prim.Native.Nat.{◌+◌, ◌*◌}
 use native.Mathlib.Omega.{arith}
 use lib.ListN.{length, length-append}
-use Rattle.set_table.specs.Entries.{entryWords, tableWords, words_of, allWords, vertexTotal, entryTotals}
+use Rattle.set_table.specs.Entries.{entry_words, table_words, words_of, all_words, vertex_total, entry_totals}
 use Rattle.set_table.specs.declared.totals.Totals.{Totals}
 use Rattle.set_table.proofs.Words.{all-words-next, vertex-total-next, triangle-total-next}
-use Rattle.shared_set.specs.Bodies.{Body, triangleCountIn, entry_of}
-use Rattle.ledger.specs.Ledger.{Ledger, empty, then, bodyCount, vertexSum, triangleSum, totalsOf, entriesOf, setTable, setVertices, lastTriangles, setTriangles}
+use Rattle.shared_set.specs.Bodies.{Body, triangle_count_in, entry_of}
+use Rattle.ledger.specs.Ledger.{Ledger, empty, then, body_count, vertex_sum, triangle_sum, totals_of, entries_of, set_table, set_vertices, last_triangles, set_triangles}
 use Rattle.ledger.specs.Shapes.{EachShaped}
 use Rattle.ledger.proofs.Bodies.{length-shifted}
 
-length-entries : (L : Ledger) → length (allWords (entriesOf L)) ≡ entryWords * bodyCount L
+length-entries : (L : Ledger) → length (all_words (entries_of L)) ≡ entry_words * body_count L
 length-entries empty = refl
 length-entries (then L b) =
-    let e = entry_of (totalsOf L) b in
-    let words = ap length (all-words-next (entriesOf L) e) in
-    omega (arith, length-entries L, words, length-append (allWords (entriesOf L)) (words_of e))
+    let e = entry_of (totals_of L) b in
+    let words = ap length (all-words-next (entries_of L) e) in
+    omega (arith, length-entries L, words, length-append (all_words (entries_of L)) (words_of e))
 
-pub length-table : (L : Ledger) → length (setTable L) ≡ tableWords (bodyCount L)
+pub length-table : (L : Ledger) → length (set_table L) ≡ table_words (body_count L)
 length-table L = omega (arith, length-entries L)
 
-pub length-set-vertices : (L : Ledger) → EachShaped L → length (setVertices L) ≡ 3 * vertexSum L
+pub length-set-vertices : (L : Ledger) → EachShaped L → length (set_vertices L) ≡ 3 * vertex_sum L
 length-set-vertices empty h = refl
 length-set-vertices (then L b) h =
-    omega (arith, length-set-vertices L h.0, length-append (setVertices L) b.vertices, h.1.whole)
+    omega (arith, length-set-vertices L h.0, length-append (set_vertices L) b.vertices, h.1.whole)
 
 -- whatever is added to the indices
-length-triangles : (L : Ledger) (b : Body) → length (lastTriangles L b) ≡ 3 * triangleCountIn b
+length-triangles : (L : Ledger) (b : Body) → length (last_triangles L b) ≡ 3 * triangle_count_in b
 length-triangles L b = length-shifted _ b.triangles
 
-pub length-set-triangles : (L : Ledger) → length (setTriangles L) ≡ 3 * triangleSum L
+pub length-set-triangles : (L : Ledger) → length (set_triangles L) ≡ 3 * triangle_sum L
 length-set-triangles empty = refl
 length-set-triangles (then L b) =
-    omega (arith, length-set-triangles L, length-append (setTriangles L) (lastTriangles L b), length-triangles L b)
+    omega (arith, length-set-triangles L, length-append (set_triangles L) (last_triangles L b), length-triangles L b)
 
 -- what its entries add up to
-pub entries-totals : (L : Ledger) → entryTotals (entriesOf L) ≡ totalsOf L
+pub entries-totals : (L : Ledger) → entry_totals (entries_of L) ≡ totals_of L
 entries-totals empty = refl
 entries-totals (then L b) =
-    let e = entry_of (totalsOf L) b in
+    let e = entry_of (totals_of L) b in
     let before = entries-totals L in
-    let count = length-append (entriesOf L) (e ∷ []) ∙ ap (λ (t : Totals). t.bodies + 1) before in
-    let vertices : vertexTotal (entriesOf L ++ (e ∷ [])) ≡ vertexSum (then L b) =
-    omega (arith, vertex-total-next (entriesOf L) e, ap (λ (t : Totals). t.vertices) before) in
-    let triangles = triangle-total-next (entriesOf L) e ∙ ap (λ (t : Totals). t.triangles + e.triangles) before in
+    let count = length-append (entries_of L) (e ∷ []) ∙ ap (λ (t : Totals). t.bodies + 1) before in
+    let vertices : vertex_total (entries_of L ++ (e ∷ [])) ≡ vertex_sum (then L b) =
+    omega (arith, vertex-total-next (entries_of L) e, ap (λ (t : Totals). t.vertices) before) in
+    let triangles = triangle-total-next (entries_of L) e ∙ ap (λ (t : Totals). t.triangles + e.triangles) before in
     λ i. record { bodies = count i; vertices = vertices i; triangles = triangles i }

@@ -35,9 +35,9 @@ abbrev pub additions : List Call → Buffers → Called
 additions [] s = record { answers = []; left = s }
 additions (a ∷ rest) s = answered (addition a s).answer (additions rest (addition a s).left)
 
-abbrev pub clearedSet : Buffers → Buffers
-clearedSet s = buffers (cleared s.table) s.vertices s.triangles
+abbrev pub cleared_set : Buffers → Buffers
+cleared_set s = buffers (cleared s.table) s.vertices s.triangles
 
 -- a clear, and then additions
-abbrev pub clearAndAdd : List Call → Buffers → Called
-clearAndAdd list s = additions list (clearedSet s)
+abbrev pub clear_and_add : List Call → Buffers → Called
+clear_and_add list s = additions list (cleared_set s)

@@ -1,27 +1,27 @@
 -- When buffers hold a ledger: they begin with its set, which keeps to the limits of a set.
 -- Definitions only.
 use Rattle.std.specs.Prelude.{◌≡◌, List, ◌++◌, ℕ, ◌*◌, ◌≤◌, length, drop}
-use Rattle.surface.specs.Limits.{mostInAll}
-use Rattle.set_table.specs.Entries.{tableWords}
-use Rattle.set_table.specs.Room.{mostBodies, Lengths}
-use Rattle.set_table.specs.Buffers.{Buffers, lengthsOf}
-use Rattle.ledger.specs.Ledger.{Ledger, bodyCount, vertexSum, triangleSum, setTable, setVertices, setTriangles}
+use Rattle.surface.specs.Limits.{most_in_all}
+use Rattle.set_table.specs.Entries.{table_words}
+use Rattle.set_table.specs.Room.{most_bodies, Lengths}
+use Rattle.set_table.specs.Buffers.{Buffers, lengths_of}
+use Rattle.ledger.specs.Ledger.{Ledger, body_count, vertex_sum, triangle_sum, set_table, set_vertices, set_triangles}
 use Rattle.ledger.specs.Shapes.{EachShaped}
 
 -- "begin with .., bit for bit. Past it they hold what they held"
-abbrev pub beginsWith : {A : Type 0} → List A → List A → List A
-beginsWith set held = set ++ drop (length set) held
+abbrev pub begins_with : {A : Type 0} → List A → List A → List A
+begins_with set held = set ++ drop (length set) held
 
 -- the ledger's set keeps to the limits of a set, and fits buffers of these lengths
 pub record Limited (lent : Lengths) (L : Ledger) : Type 0 where
-  pub few : bodyCount L ≤ mostBodies
-  pub entries : tableWords (bodyCount L) ≤ lent.table
-  pub vertices : (vertexSum L ≤ mostInAll) × (3 * vertexSum L ≤ lent.vertices)
-  pub triangles : (triangleSum L ≤ mostInAll) × (3 * triangleSum L ≤ lent.triangles)
+  pub few : body_count L ≤ most_bodies
+  pub entries : table_words (body_count L) ≤ lent.table
+  pub vertices : (vertex_sum L ≤ most_in_all) × (3 * vertex_sum L ≤ lent.vertices)
+  pub triangles : (triangle_sum L ≤ most_in_all) × (3 * triangle_sum L ≤ lent.triangles)
 
 pub record Holds (s : Buffers) (L : Ledger) : Type 0 where
-  pub limits : Limited (lengthsOf s) L
+  pub limits : Limited (lengths_of s) L
   pub each : EachShaped L
-  pub table : s.table ≡ beginsWith (setTable L) s.table
-  pub vertices : s.vertices ≡ beginsWith (setVertices L) s.vertices
-  pub triangles : s.triangles ≡ beginsWith (setTriangles L) s.triangles
+  pub table : s.table ≡ begins_with (set_table L) s.table
+  pub vertices : s.vertices ≡ begins_with (set_vertices L) s.vertices
+  pub triangles : s.triangles ≡ begins_with (set_triangles L) s.triangles

@@ -19,5 +19,5 @@ words_in bytes = blocks (length bytes / 4) (λ i. word_at bytes (4 * i))
 abbrev pub bytes_of : ℕ → List ℕ
 bytes_of w = w % 256 ∷ w / 256 % 256 ∷ w / 65536 % 256 ∷ w / 16777216 % 256 ∷ []
 
-abbrev pub bytesIn : List ℕ → List ℕ
-bytesIn words = blocks (length words) (λ i. bytes_of (get_or words i 0))
+abbrev pub bytes_in : List ℕ → List ℕ
+bytes_in words = blocks (length words) (λ i. bytes_of (get_or words i 0))

@@ -3,7 +3,7 @@
 
 ghost use Rattle.std.specs.Prelude.{◌≡◌, ◌+◌, ◌/◌, ◌≤◌, leb, length};
 ghost use Rattle.laws.specs.Overwrite.{overwrite, placed};
-ghost use Rattle.little_endian.specs.Words.{word_of, words_in, bytes_of, bytesIn};
+ghost use Rattle.little_endian.specs.Words.{word_of, words_in, bytes_of, bytes_in};
 
 fn word(a: u8, b: u8, c: u8, d: u8) -> u32
     ensures { result ≡ word_of a b c d }
@@ -44,7 +44,7 @@ fn put_word(out: &mut [u8], at: usize, w: u32)
 // writes nothing.
 pub fn write_words(words: &[u32], out: &mut [u8]) -> bool
     ensures fits { result ≡ leb (length words.now) (length out.old / 4) }
-    ensures written { out.new ≡ placed result (bytesIn words.now) out.old }
+    ensures written { out.new ≡ placed result (bytes_in words.now) out.old }
 {
     if words.len() > out.len() / 4 {
         return false;

@@ -2,15 +2,15 @@
 use mathlib.Core.Path.{◌≡◌}
 use mathlib.Core.List.{List}
 use Rattle.answers.specs.Answers.{accepted}
-use Rattle.set_table.specs.Buffers.{Buffers, buffers, lengthsOf}
-use Rattle.shared_set.specs.Set.{clearAnswer}
-use Rattle.ledger.specs.Ledger.{empty, repliesTo}
-use Rattle.ledger.specs.Calls.{Call, tell, clearAndAdd}
+use Rattle.set_table.specs.Buffers.{Buffers, buffers, lengths_of}
+use Rattle.shared_set.specs.Set.{clear_answer}
+use Rattle.ledger.specs.Ledger.{empty, replies_to}
+use Rattle.ledger.specs.Calls.{Call, tell, clear_and_add}
 use Rattle.ledger.proofs.Demand3.{demand-3}
-use Rattle.records.specs.Built.{ledgerSet}
+use Rattle.records.specs.Built.{ledger_set}
 
-pub all-added : (s : Buffers) (list : List Call) → clearAnswer s.table ≡ accepted tt
-    → clearAndAdd list s ≡ record { answers = repliesTo (lengthsOf s) empty (tell list); left = ledgerSet s list }
+pub all-added : (s : Buffers) (list : List Call) → clear_answer s.table ≡ accepted tt
+    → clear_and_add list s ≡ record { answers = replies_to (lengths_of s) empty (tell list); left = ledger_set s list }
 all-added s list ok =
     let d = demand-3.clear s list ok in
     (λ j. record { answers = d.answers j; left = buffers (d.table j) (d.vertices j) (d.triangles j) })

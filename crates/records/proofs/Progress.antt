@@ -10,13 +10,13 @@ use lib.ListN.{length, drop, length-append, length-drop, length-map}
 use lib.Seq.{drop-drop}
 use Rattle.laws.specs.Overwrite.{overwrite, overwrite-none, written_behind}
 use Rattle.answers.specs.Answers.{Answer, number_in}
-use Rattle.set_table.specs.Buffers.{Buffers, lengthsOf}
+use Rattle.set_table.specs.Buffers.{Buffers, lengths_of}
 use Rattle.ledger.specs.Calls.{Call, Called, additions}
-use Rattle.records.specs.Records.{beginsWithRecord, recordWords, firstAddition, additionsIn}
-use Rattle.records.specs.Built.{repliesIn, numbersOf}
+use Rattle.records.specs.Records.{begins_with_record, record_words, first_addition, additions_in}
+use Rattle.records.specs.Built.{replies_in, numbers_of}
 use Rattle.records.specs.declared.reply.Reply.{Reply}
 use Rattle.records.specs.declared.reply.Reply.TheVariants.{Skipped, Answered}
-use Rattle.records.proofs.Additions.{whole, record-length, additions-next, additions-none, precededBy, additions-append}
+use Rattle.records.proofs.Additions.{whole, record-length, additions-next, additions-none, preceded_by, additions-append}
 
 -- The records before place `at` have been read and i answers written. The buffers held s₀ and
 -- answers₀, and hold s and answers.
@@ -24,24 +24,24 @@ pub record Progress (records answers₀ : List ℕ) (s₀ : Buffers) (answers : 
   -- what the calls so far answered
   pub done : List (Answer (Unit {0}))
   -- with the calls that remain they give the whole
-  pub gives : additions (additionsIn records) s₀ ≡ precededBy done (additions (additionsIn (drop at records)) s)
-  pub written : answers ≡ overwrite 0 (numbersOf done) answers₀
+  pub gives : additions (additions_in records) s₀ ≡ preceded_by done (additions (additions_in (drop at records)) s)
+  pub written : answers ≡ overwrite 0 (numbers_of done) answers₀
   pub counted : i ≡ length done
   pub fewer : i ≤ at
   pub within : at ≤ length records
-  pub sized : lengthsOf s ≡ lengthsOf s₀
+  pub sized : lengths_of s ≡ lengths_of s₀
 
 -- a record gets one answer at most
-one-reply : (reply : Reply) → length (repliesIn reply) ≤ 1
+one-reply : (reply : Reply) → length (replies_in reply) ≤ 1
 one-reply Skipped = omega arith
 one-reply (Answered outcome) = omega arith
 
 -- the calls of the first record, and those of the others after them
-first-apart : (words : List ℕ) (s : Buffers) → beginsWithRecord words ≡ true → let first = additions (firstAddition words) s in
-    additions (additionsIn words) s ≡ precededBy first.answers (additions (additionsIn (drop (recordWords words) words)) first.left)
+first-apart : (words : List ℕ) (s : Buffers) → begins_with_record words ≡ true → let first = additions (first_addition words) s in
+    additions (additions_in words) s ≡ preceded_by first.answers (additions (additions_in (drop (record_words words) words)) first.left)
 first-apart words s begins =
     ap (λ (list : List Call). additions list s) (additions-next words begins)
-    ∙ additions-append (firstAddition words) (additionsIn (drop (recordWords words) words)) s
+    ∙ additions-append (first_addition words) (additions_in (drop (record_words words) words)) s
 
 module _ (records answers₀ : List ℕ) (s₀ : Buffers) where
   -- nothing is done
@@ -59,28 +59,28 @@ module _ (records answers₀ : List ℕ) (s₀ : Buffers) where
   -- one record more
   pub next : {answers answers' : List ℕ} {s s' : Buffers} {at i i' words : ℕ} (reply : Reply)
       → Progress records answers₀ s₀ answers s at i
-      → beginsWithRecord (drop at records) ≡ true
-      → words ≡ recordWords (drop at records)
-      → record { answers = repliesIn reply; left = s' } ≡ additions (firstAddition (drop at records)) s
-      → lengthsOf s' ≡ lengthsOf s
-      → i' ≡ i + length (repliesIn reply)
-      → answers' ≡ overwrite i (numbersOf (repliesIn reply)) answers
+      → begins_with_record (drop at records) ≡ true
+      → words ≡ record_words (drop at records)
+      → record { answers = replies_in reply; left = s' } ≡ additions (first_addition (drop at records)) s
+      → lengths_of s' ≡ lengths_of s
+      → i' ≡ i + length (replies_in reply)
+      → answers' ≡ overwrite i (numbers_of (replies_in reply)) answers
       → Progress records answers₀ s₀ answers' s' (at + words) i'
   next {answers} {answers'} {s} {s'} {at} {i} {i'} {words} reply p begins size calls same more put =
       let rest = drop at records in
       let done = p.done in
-      let replies = repliesIn reply in
-      let on : drop (recordWords rest) rest ≡ drop (at + words) records =
-      drop-drop (recordWords rest) at records ∙ ap (λ (k : ℕ). drop (at + k) records) (sym size) in
-      let others = additions (additionsIn (drop (at + words) records)) s' in
-      let sized : length (numbersOf done) ≡ i = length-map done number_in ∙ sym p.counted in
-      let from-i = put ∙ ap (λ (k : ℕ). overwrite k (numbersOf replies) answers) (sym (zero-add i)) in
+      let replies = replies_in reply in
+      let on : drop (record_words rest) rest ≡ drop (at + words) records =
+      drop-drop (record_words rest) at records ∙ ap (λ (k : ℕ). drop (at + k) records) (sym size) in
+      let others = additions (additions_in (drop (at + words) records)) s' in
+      let sized : length (numbers_of done) ≡ i = length-map done number_in ∙ sym p.counted in
+      let from-i = put ∙ ap (λ (k : ℕ). overwrite k (numbers_of replies) answers) (sym (zero-add i)) in
       record {
         done = done ++ replies;
         gives = p.gives
-            ∙ ap (precededBy done) (first-apart rest s begins ∙ (λ j. precededBy (sym calls j).answers (additions (additionsIn (on j)) (sym calls j).left)))
+            ∙ ap (preceded_by done) (first-apart rest s begins ∙ (λ j. preceded_by (sym calls j).answers (additions (additions_in (on j)) (sym calls j).left)))
             ∙ (λ j. record { answers = sym (append_assoc done replies others.answers) j; left = others.left });
-        written = written_behind 0 (numbersOf done) (numbersOf replies) answers₀ p.written sized from-i
+        written = written_behind 0 (numbers_of done) (numbers_of replies) answers₀ p.written sized from-i
             ∙ ap (λ (l : List ℕ). overwrite 0 l answers₀) (sym (map-append number_in done replies));
         counted = more ∙ ap (λ (k : ℕ). k + length replies) p.counted ∙ sym (length-append done replies);
         fewer = omega (arith, one-reply reply, p.fewer, record-length rest begins);
@@ -90,15 +90,15 @@ module _ (records answers₀ : List ℕ) (s₀ : Buffers) where
 
   -- no record more
   module _ {answers : List ℕ} {s : Buffers} {at i : ℕ} (p : Progress records answers₀ s₀ answers s at i)
-      (none : beginsWithRecord (drop at records) ≡ false) where
-    all : additions (additionsIn records) s₀ ≡ record { answers = p.done; left = s }
+      (none : begins_with_record (drop at records) ≡ false) where
+    all : additions (additions_in records) s₀ ≡ record { answers = p.done; left = s }
     all =
         p.gives
-        ∙ ap (λ (list : List Call). precededBy p.done (additions list s)) (additions-none (drop at records) none)
+        ∙ ap (λ (list : List Call). preceded_by p.done (additions list s)) (additions-none (drop at records) none)
         ∙ (λ j. record { answers = append-nil p.done j; left = s })
 
-    pub all_left : s ≡ (additions (additionsIn records) s₀).left
+    pub all_left : s ≡ (additions (additions_in records) s₀).left
     all_left = ap (λ (r : Called). r.left) (sym all)
 
-    pub all-answered : answers ≡ overwrite 0 (numbersOf (additions (additionsIn records) s₀).answers) answers₀
-    all-answered = p.written ∙ ap (λ (r : Called). overwrite 0 (numbersOf r.answers) answers₀) (sym all)
+    pub all-answered : answers ≡ overwrite 0 (numbers_of (additions (additions_in records) s₀).answers) answers₀
+    all-answered = p.written ∙ ap (λ (r : Called). overwrite 0 (numbers_of r.answers) answers₀) (sym all)

@@ -2,36 +2,36 @@
 -- Definitions only.
 use Rattle.std.specs.Prelude.{List, [], ◌∷◌, map, ℕ, Float}
 use Rattle.laws.specs.Overwrite.{overwrite}
-use Rattle.answers.specs.Answers.{Answer, refused, accepted, number_in, outcomeAnswer}
-use Rattle.set_table.specs.Buffers.{Buffers, buffers, lengthsOf}
-use Rattle.shared_set.specs.Set.{clearAnswer}
-use Rattle.ledger.specs.Ledger.{empty, repliesTo, setTable, setVertices, setTriangles}
+use Rattle.answers.specs.Answers.{Answer, refused, accepted, number_in, outcome_answer}
+use Rattle.set_table.specs.Buffers.{Buffers, buffers, lengths_of}
+use Rattle.shared_set.specs.Set.{clear_answer}
+use Rattle.ledger.specs.Ledger.{empty, replies_to, set_table, set_vertices, set_triangles}
 use Rattle.ledger.specs.Calls.{Call, tell, Called}
-use Rattle.ledger.specs.Holds.{beginsWith}
-use Rattle.ledger.specs.Demand3.{ledgerOf, zeroedVertices}
-use Rattle.records.specs.Records.{additionsIn}
+use Rattle.ledger.specs.Holds.{begins_with}
+use Rattle.ledger.specs.Demand3.{ledger_of, zeroed_vertices}
+use Rattle.records.specs.Records.{additions_in}
 use Rattle.records.specs.declared.reply.Reply.{Reply}
 use Rattle.records.specs.declared.reply.Reply.TheVariants.{Skipped, Answered}
 
 -- the answers of one record: one, or none if it is skipped
-abbrev pub repliesIn : Reply → List (Answer (Unit {0}))
-repliesIn Skipped = []
-repliesIn (Answered outcome) = outcomeAnswer outcome ∷ []
+abbrev pub replies_in : Reply → List (Answer (Unit {0}))
+replies_in Skipped = []
+replies_in (Answered outcome) = outcome_answer outcome ∷ []
 
 abbrev pub called : List (Answer (Unit {0})) → List ℕ → List Float → List ℕ → Called
 called answers table vertices triangles = record { answers = answers; left = buffers table vertices triangles }
 
 -- document 01's numbers, 0 for what is accepted
-abbrev pub numbersOf : List (Answer (Unit {0})) → List ℕ
-numbersOf answers = map number_in answers
+abbrev pub numbers_of : List (Answer (Unit {0})) → List ℕ
+numbers_of answers = map number_in answers
 
 -- the buffers that begin with the ledger's set
-abbrev pub ledgerSet : Buffers → List Call → Buffers
-ledgerSet s list =
+abbrev pub ledger_set : Buffers → List Call → Buffers
+ledger_set s list =
     buffers
-    (beginsWith (setTable (ledgerOf s list)) s.table)
-    (beginsWith (setVertices (ledgerOf s list)) (zeroedVertices s list))
-    (beginsWith (setTriangles (ledgerOf s list)) s.triangles)
+    (begins_with (set_table (ledger_of s list)) s.table)
+    (begins_with (set_vertices (ledger_of s list)) (zeroed_vertices s list))
+    (begins_with (set_triangles (ledger_of s list)) s.triangles)
 
 -- the clear's answer, the buffer of answers and the three buffers
 pub record Built : Type 0 where
@@ -39,16 +39,16 @@ pub record Built : Type 0 where
   pub answers : List ℕ
   pub left : Buffers
 
-abbrev pub builtBy : Answer (Unit {0}) → List Call → List ℕ → Buffers → Built
-builtBy (refused number) list answers s = record { answer = refused number; answers = answers; left = s }
-builtBy (accepted u) list answers s = record {
+abbrev pub built_by : Answer (Unit {0}) → List Call → List ℕ → Buffers → Built
+built_by (refused number) list answers s = record { answer = refused number; answers = answers; left = s }
+built_by (accepted u) list answers s = record {
   answer = accepted u;
-  answers = overwrite 0 (numbersOf (repliesTo (lengthsOf s) empty (tell list))) answers;
-  left = ledgerSet s list;
+  answers = overwrite 0 (numbers_of (replies_to (lengths_of s) empty (tell list))) answers;
+  left = ledger_set s list;
 }
 
-abbrev pub builtOf : List ℕ → List ℕ → Buffers → Built
-builtOf records answers s = builtBy (clearAnswer s.table) (additionsIn records) answers s
+abbrev pub built_of : List ℕ → List ℕ → Buffers → Built
+built_of records answers s = built_by (clear_answer s.table) (additions_in records) answers s
 
 abbrev pub built : Answer (Unit {0}) → List ℕ → Buffers → Built
 built answer answers left = record { answer = answer; answers = answers; left = left }

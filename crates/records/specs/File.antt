@@ -5,16 +5,16 @@
 use Rattle.std.specs.Prelude.{◌≡◌, List, ℕ}
 use Rattle.answers.specs.Answers.{accepted}
 use Rattle.set_table.specs.Buffers.{Buffers}
-use Rattle.shared_set.specs.Set.{clearAnswer}
-use Rattle.set_file.specs.File.{word_in, fileWordOf}
-use Rattle.ledger.specs.Demand3.{ledgerOf}
-use Rattle.ledger.specs.File.{setFile}
-use Rattle.records.specs.Records.{additionsIn}
-use Rattle.records.specs.Built.{builtOf}
+use Rattle.shared_set.specs.Set.{clear_answer}
+use Rattle.set_file.specs.File.{word_in, file_word_of}
+use Rattle.ledger.specs.Demand3.{ledger_of}
+use Rattle.ledger.specs.File.{set_file}
+use Rattle.records.specs.Records.{additions_in}
+use Rattle.records.specs.Built.{built_of}
 
 -- Any records, any buffers whose clear is accepted, any place: in what `build` leaves, file word
 -- reads the word of the ledger's file there, or 5 at or past its end.
 abbrev pub FileOfBuild : Type 0
-FileOfBuild = (records answers : List ℕ) (s : Buffers) → clearAnswer s.table ≡ accepted tt
+FileOfBuild = (records answers : List ℕ) (s : Buffers) → clear_answer s.table ≡ accepted tt
     → (place : ℕ)
-    → fileWordOf (builtOf records answers s).left place ≡ word_in (setFile (ledgerOf s (additionsIn records))) place
+    → file_word_of (built_of records answers s).left place ≡ word_in (set_file (ledger_of s (additions_in records))) place

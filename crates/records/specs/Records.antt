@@ -6,61 +6,61 @@ use Rattle.std.specs.Prelude.{Bool, cond, not, ◌&&◌, List, [], ◌∷◌, �
 use Rattle.std.specs.Float.{binary32}
 use Rattle.std.specs.Float.Ieee.{of_bits}
 use Rattle.laws.specs.Parts.{part}
-use Rattle.descriptions.specs.KindNumbers.{describedOf}
+use Rattle.descriptions.specs.KindNumbers.{described_of}
 use Rattle.descriptions.specs.declared.kind.Described.{Described}
 use Rattle.descriptions.specs.declared.kind.Described.TheVariants.{Known, Unknown}
 use Rattle.ledger.specs.Calls.{Call}
 
 -- the words before the coordinates
-abbrev pub headWords : ℕ
-headWords = 7
+abbrev pub head_words : ℕ
+head_words = 7
 
-abbrev pub mostVertices : ℕ
-mostVertices = 512
+abbrev pub most_vertices : ℕ
+most_vertices = 512
 
 -- "curve vertex count"
-abbrev pub verticesNamed : List ℕ → ℕ
-verticesNamed words = get_or words 6 0
+abbrev pub vertices_named : List ℕ → ℕ
+vertices_named words = get_or words 6 0
 
 -- not "a curve count over 512", nor too short to have one
-unfoldable pub headNames : List ℕ → Bool
-headNames words = leb headWords (length words) && leb (verticesNamed words) mostVertices
+unfoldable pub head_names : List ℕ → Bool
+head_names words = leb head_words (length words) && leb (vertices_named words) most_vertices
 
 -- the length of the record with this head, 0 if it is no head of a record
-abbrev pub lengthNamed : List ℕ → ℕ
-lengthNamed words = cond (headNames words) (headWords + 3 * verticesNamed words) 0
+abbrev pub length_named : List ℕ → ℕ
+length_named words = cond (head_names words) (head_words + 3 * vertices_named words) 0
 
 -- not "a short record or a curve count over 512"
-unfoldable pub beginsWithRecord : List ℕ → Bool
-beginsWithRecord words = headNames words && leb (headWords + 3 * verticesNamed words) (length words)
+unfoldable pub begins_with_record : List ℕ → Bool
+begins_with_record words = head_names words && leb (head_words + 3 * vertices_named words) (length words)
 
 -- the length of the record that the words begin with, 0 if they begin with none
-abbrev pub recordWords : List ℕ → ℕ
-recordWords words = cond (beginsWithRecord words) (headWords + 3 * verticesNamed words) 0
+abbrev pub record_words : List ℕ → ℕ
+record_words words = cond (begins_with_record words) (head_words + 3 * vertices_named words) 0
 
-abbrev pub describedIn : List ℕ → Described
-describedIn words =
-    describedOf (get_or words 0 0) (get_or words 1 0) (get_or words 2 0) (not (eqb (get_or words 3 0) 0))
+abbrev pub described_in : List ℕ → Described
+described_in words =
+    described_of (get_or words 0 0) (get_or words 1 0) (get_or words 2 0) (not (eqb (get_or words 3 0) 0))
     (of_bits binary32 (get_or words 4 0)) (of_bits binary32 (get_or words 5 0))
 
-abbrev pub curveIn : List ℕ → List Float
-curveIn words = map (of_bits binary32) (part headWords (3 * verticesNamed words) words)
+abbrev pub curve_in : List ℕ → List Float
+curve_in words = map (of_bits binary32) (part head_words (3 * vertices_named words) words)
 
 -- "skips .. kinds outside 1 to 5"; "Refusal 1 and the program admit kind 6" (document 02, No. 1)
-abbrev pub additionOf : Described → List Float → List Call
-additionOf (Known d) c = record { description = d; curve = c } ∷ []
-additionOf Unknown c = []
+abbrev pub addition_of : Described → List Float → List Call
+addition_of (Known d) c = record { description = d; curve = c } ∷ []
+addition_of Unknown c = []
 
 -- the addition, if there is one, of the record that the words begin with
-abbrev pub firstAddition : List ℕ → List Call
-firstAddition words = cond (beginsWithRecord words) (additionOf (describedIn words) (curveIn words)) []
+abbrev pub first_addition : List ℕ → List Call
+first_addition words = cond (begins_with_record words) (addition_of (described_in words) (curve_in words)) []
 
 -- "stops at a short record or a curve count over 512": the additions of the first n records
-abbrev pub additionsOf : ℕ → List ℕ → List Call
-additionsOf zero words = []
-additionsOf (suc n) words =
-    cond (beginsWithRecord words) (firstAddition words ++ additionsOf n (drop (recordWords words) words)) []
+abbrev pub additions_of : ℕ → List ℕ → List Call
+additions_of zero words = []
+additions_of (suc n) words =
+    cond (begins_with_record words) (first_addition words ++ additions_of n (drop (record_words words) words)) []
 
 -- of all: there are no more records than words
-unfoldable pub additionsIn : List ℕ → List Call
-additionsIn words = additionsOf (length words) words
+unfoldable pub additions_in : List ℕ → List Call
+additions_in words = additions_of (length words) words

@@ -1,10 +1,10 @@
 ghost use Rattle.std.specs.Prelude.{◌≡◌, ◌+◌, ◌≤◌, length};
 ghost use Rattle.laws.specs.Overwrite.{overwrite};
 ghost use Rattle.set_table.specs.Buffers.{buffers};
-ghost use Rattle.answers.specs.Answers.{outcomeAnswer};
+ghost use Rattle.answers.specs.Answers.{outcome_answer};
 ghost use Rattle.ledger.specs.Calls.{additions};
-ghost use Rattle.records.specs.Records.{additionsIn};
-ghost use Rattle.records.specs.Built.{repliesIn, numbersOf, built, builtOf};
+ghost use Rattle.records.specs.Records.{additions_in};
+ghost use Rattle.records.specs.Built.{replies_in, numbers_of, built, built_of};
 
 use crate::first::add_first;
 use crate::head::record_words;
@@ -15,8 +15,8 @@ use answers::Outcome;
 // past its end. Answers how many numbers there are now.
 fn put_answer(reply: Reply, answers: &mut [u32], i: usize) -> usize
     requires { i + 1 ≤ 18446744073709551615 }
-    ensures value { result ≡ i + length (repliesIn reply) }
-    ensures answers_after { answers.new ≡ overwrite i (numbersOf (repliesIn reply)) answers.old }
+    ensures value { result ≡ i + length (replies_in reply) }
+    ensures answers_after { answers.new ≡ overwrite i (numbers_of (replies_in reply)) answers.old }
 {
     match reply {
         Reply::Skipped => i,
@@ -40,10 +40,10 @@ fn add_all(
 )
     ensures triangles_after { let s = buffers table.old vertices.old triangles.old in
         buffers table.new vertices.new triangles.new
-        ≡ (additions (additionsIn records.now) s).left }
+        ≡ (additions (additions_in records.now) s).left }
     ensures answers_after { let s = buffers table.old vertices.old triangles.old in
-        let calls = additions (additionsIn records.now) s in
-        answers.new ≡ overwrite 0 (numbersOf calls.answers) answers.old }
+        let calls = additions (additions_in records.now) s in
+        answers.new ≡ overwrite 0 (numbers_of calls.answers) answers.old }
 {
     let mut at: usize = 0;
     let mut i: usize = 0;
@@ -69,8 +69,8 @@ pub fn build(
 ) -> Outcome
     ensures { let before = buffers table.old vertices.old triangles.old in
         let after = buffers table.new vertices.new triangles.new in
-        built (outcomeAnswer result) answers.new after
-        ≡ builtOf records.now answers.old before }
+        built (outcome_answer result) answers.new after
+        ≡ built_of records.now answers.old before }
 {
     let outcome = shared_set::clear(table);
     if let Outcome::Accepted = outcome {

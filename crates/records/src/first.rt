@@ -3,12 +3,12 @@ ghost use Rattle.std.specs.Float.{binary32};
 ghost use Rattle.std.specs.Float.Ieee.{of_bits};
 ghost use Rattle.laws.specs.Overwrite.{overwrite};
 ghost use Rattle.set_table.specs.Buffers.{buffers};
-ghost use Rattle.answers.specs.Answers.{outcomeAnswer};
+ghost use Rattle.answers.specs.Answers.{outcome_answer};
 ghost use Rattle.shared_set.specs.Additions.{taken};
 ghost use Rattle.shared_set.specs.Set.{after, added};
 ghost use Rattle.ledger.specs.Calls.{additions};
-ghost use Rattle.records.specs.Records.{firstAddition};
-ghost use Rattle.records.specs.Built.{repliesIn, called};
+ghost use Rattle.records.specs.Records.{first_addition};
+ghost use Rattle.records.specs.Built.{replies_in, called};
 
 use crate::head::{HEAD_WORDS, MOST_VERTICES, describe, record_words};
 use crate::reply::Reply;
@@ -42,7 +42,7 @@ fn add_body(
     triangles: &mut [u32],
 ) -> Outcome
     requires { length coordinates.now ≤ length scratch.old }
-    ensures { after (outcomeAnswer result) table.new vertices.new triangles.new
+    ensures { after (outcome_answer result) table.new vertices.new triangles.new
         ≡ added (taken description (map (of_bits binary32) coordinates.now))
         (buffers table.old vertices.old triangles.old) }
 {
@@ -59,8 +59,8 @@ pub fn add_first(
     vertices: &mut [f32],
     triangles: &mut [u32],
 ) -> Reply
-    ensures { called (repliesIn result) table.new vertices.new triangles.new
-        ≡ additions (firstAddition words.now)
+    ensures { called (replies_in result) table.new vertices.new triangles.new
+        ≡ additions (first_addition words.now)
         (buffers table.old vertices.old triangles.old) }
 {
     let end = record_words(words);

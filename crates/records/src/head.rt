@@ -1,5 +1,5 @@
 ghost use Rattle.std.specs.Prelude.{◌≡◌, ◌≤◌, length};
-ghost use Rattle.records.specs.Records.{lengthNamed, recordWords, describedIn};
+ghost use Rattle.records.specs.Records.{length_named, record_words, described_in};
 
 use descriptions::{Described, of_kind};
 use float32::from_word;
@@ -13,7 +13,7 @@ pub(crate) const MOST_VERTICES: usize = 512;
 // The length of the record that begins with `head`; 0 if the head is too short or names too many
 // vertices.
 pub fn record_length(head: &[u32]) -> usize
-    ensures { result ≡ lengthNamed head.now }
+    ensures { result ≡ length_named head.now }
 {
     if head.len() < HEAD_WORDS {
         return 0;
@@ -28,7 +28,7 @@ pub fn record_length(head: &[u32]) -> usize
 // The length of the record that `words` begins with; 0 if it is cut short or names too many
 // vertices.
 pub fn record_words(words: &[u32]) -> usize
-    ensures { result ≡ recordWords words.now }
+    ensures { result ≡ record_words words.now }
 {
     let count = record_length(words);
     if count > words.len() {
@@ -40,7 +40,7 @@ pub fn record_words(words: &[u32]) -> usize
 // What the head of a record describes.
 pub(crate) fn describe(words: &[u32]) -> Described
     requires { 7 ≤ length words.now }
-    ensures { result ≡ describedIn words.now }
+    ensures { result ≡ described_in words.now }
 {
     of_kind(
         words[0],

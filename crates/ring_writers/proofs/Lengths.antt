@@ -16,31 +16,31 @@ use Rattle.vec3.specs.Points.{coordinates, plus}
 use Rattle.vec3.specs.Turns.{turn_of}
 use Rattle.vec3.specs.declared.points.Point.{Point}
 use Rattle.vec3.specs.declared.turns.Direction.{Direction}
-use Rattle.rings.specs.Vertices.{ringOf, bottomPole, topPole, capVertex, levelVertex, pole}
+use Rattle.rings.specs.Vertices.{ring_of, bottom_pole, top_pole, cap_vertex, level_vertex, pole}
 use Rattle.rings.specs.declared.axes.Axes.{Axes}
-use Rattle.ring_writers.specs.Caps.{capRings, endVertices}
-use Rattle.ring_writers.specs.ClosedCylinder.{low_of, cylinderRing, cylinderRings, cylinderVertices}
+use Rattle.ring_writers.specs.Caps.{cap_rings, end_vertices}
+use Rattle.ring_writers.specs.ClosedCylinder.{low_of, cylinder_ring, cylinder_rings, cylinder_vertices}
 
-pub length-ring : (vertex : Direction → Point) (n : ℕ) → length (ringOf vertex n) ≡ n * 3
+pub length-ring : (vertex : Direction → Point) (n : ℕ) → length (ring_of vertex n) ≡ n * 3
 length-ring vertex n = length-blocks 3 n (λ i. coordinates (vertex (turn_of i n))) (λ i h. refl)
 
 -- rings one after the other
 pub length-rings : (vertex : ℕ → Direction → Point) (k n : ℕ)
-    → length (blocks k (λ g. ringOf (vertex g) n)) ≡ k * (n * 3)
-length-rings vertex k n = length-blocks (n * 3) k (λ g. ringOf (vertex g) n) (λ g h. length-ring (vertex g) n)
+    → length (blocks k (λ g. ring_of (vertex g) n)) ≡ k * (n * 3)
+length-rings vertex k n = length-blocks (n * 3) k (λ g. ring_of (vertex g) n) (λ g h. length-ring (vertex g) n)
 
-pub length-cap : (end : End) (a : Axes) (r : Float) (L n : ℕ) → length (capRings end a r L n) ≡ L * (n * 3)
-length-cap end a r L n = length-rings (capVertex end a r L) L n
+pub length-cap : (end : End) (a : Axes) (r : Float) (L n : ℕ) → length (cap_rings end a r L n) ≡ L * (n * 3)
+length-cap end a r L n = length-rings (cap_vertex end a r L) L n
 
-pub length-end : (end : End) (a : Axes) (r : Float) (L n : ℕ) → length (endVertices end a r L n) ≡ 3 + L * (n * 3)
+pub length-end : (end : End) (a : Axes) (r : Float) (L n : ℕ) → length (end_vertices end a r L n) ≡ 3 + L * (n * 3)
 length-end Bottom a r L n = omega (
   arith,
-  length-append (coordinates (bottomPole a r)) (capRings Bottom a r L n),
+  length-append (coordinates (bottom_pole a r)) (cap_rings Bottom a r L n),
   length-cap Bottom a r L n,
 )
 length-end Top a r L n = omega (
   arith,
-  length-append (capRings Top a r L n) (coordinates (topPole a r)),
+  length-append (cap_rings Top a r L n) (coordinates (top_pole a r)),
   length-cap Top a r L n,
 )
 
@@ -71,14 +71,14 @@ module _ (f : ℕ → List Float) (first last : List Float) where
 
 -- the closed cylinder: pole, rings, pole
 pub cylinder-parts : (r l : Float) (n S : ℕ) (centred : Bool) → let low = low_of centred l in
-    cylinderVertices r l n S centred ≡ coordinates (pole low)
-    ++ (cylinderRings r low l S n ++ coordinates (pole (plus low l)))
+    cylinder_vertices r l n S centred ≡ coordinates (pole low)
+    ++ (cylinder_rings r low l S n ++ coordinates (pole (plus low l)))
 cylinder-parts r l n S centred =
     let low = low_of centred l in
-    blocks-framed (cylinderRing r low l S n) (coordinates (pole low)) (coordinates (pole (plus low l))) S
+    blocks-framed (cylinder_ring r low l S n) (coordinates (pole low)) (coordinates (pole (plus low l))) S
 
 pub length-cylinder : (r l : Float) (n S : ℕ) (centred : Bool)
-    → length (cylinderVertices r l n S centred) ≡ (S + 1) * (n * 3) + 6
+    → length (cylinder_vertices r l n S centred) ≡ (S + 1) * (n * 3) + 6
 length-cylinder r l n S centred =
     ap length (cylinder-parts r l n S centred)
-    ∙ simp length-append (omega (arith, length-rings (levelVertex r (low_of centred l) l S) (S + 1) n))
+    ∙ simp length-append (omega (arith, length-rings (level_vertex r (low_of centred l) l S) (S + 1) n))

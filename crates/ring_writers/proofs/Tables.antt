@@ -6,16 +6,16 @@ use Prim.Native.Nat.{ℕ, ◌+◌, ◌*◌, ◌≤◌, ◌<◌}
 use native.Mathlib.Omega.{arith}
 use lib.Ieee.{Float, nan}
 use lib.ListN.{length, get_or}
-use Rattle.laws.specs.Overwrite.{overwrite, getD-within}
-use Rattle.laws.specs.Blocks.{blocks, length-blocks, getD-blocks}
+use Rattle.laws.specs.Overwrite.{overwrite, get_or-within}
+use Rattle.laws.specs.Blocks.{blocks, length-blocks, get_or-blocks}
 use Rattle.vec3.specs.Points.{coordinates, thrice}
 use Rattle.vec3.specs.Turns.{pair, turn_of}
 use Rattle.vec3.specs.declared.points.Point.{Point}
-use Rattle.curve.specs.Segments.{pointAt}
-use Rattle.rings.specs.Vertices.{vertexOn}
-use Rattle.rings.specs.Rings.{inOrder, ringVertex, fourOf}
+use Rattle.curve.specs.Segments.{point_at}
+use Rattle.rings.specs.Vertices.{vertex_on}
+use Rattle.rings.specs.Rings.{in_order, ring_vertex, four_of}
 use Rattle.rings.specs.declared.ring.Ring.{Ring}
-use Rattle.ring_writers.specs.Tables.{Turns, fourIn, fourCoordinates}
+use Rattle.ring_writers.specs.Tables.{Turns, four_in, four_coordinates}
 
 module _ (at n : ℕ) (point : ℕ → Point) (t₀ : List Float) where
   abbrev points : List Float
@@ -27,11 +27,11 @@ module _ (at n : ℕ) (point : ℕ → Point) (t₀ : List Float) where
   coordinate k j room h l is =
       let sized : length points ≡ n * 3 = length-blocks 3 n (λ k. coordinates (point k)) (λ k h. refl) in
       ap (λ (i : ℕ). get_or (overwrite at points t₀) i nan) is
-      ∙ getD-within at points t₀ (k * 3 + j) nan (omega (arith, sized)) (omega arith)
-      ∙ getD-blocks 3 n (λ k. coordinates (point k)) k j (k * 3 + j) nan (λ k. refl) h l refl
+      ∙ get_or-within at points t₀ (k * 3 + j) nan (omega (arith, sized)) (omega arith)
+      ∙ get_or-blocks 3 n (λ k. coordinates (point k)) k j (k * 3 + j) nan (λ k. refl) h l refl
 
   pub table-point : (k : ℕ) {q : ℕ} → at + n * 3 ≤ length t₀ → k < n → q ≡ at + k * 3
-      → pointAt (overwrite at points t₀) q ≡ point k
+      → point_at (overwrite at points t₀) q ≡ point k
   table-point k {q} room h is = λ i. record {
     x = coordinate k 0 {q = q} room h (omega arith) (omega arith) i;
     y = coordinate k 1 {q = q + 1} room h (omega arith) (omega arith) i;
@@ -50,15 +50,15 @@ module _ (n : ℕ) {table : List Float} (turns : Turns n table) where
 module _ (ring : Ring) (n : ℕ) {table : List Float} (turns : Turns n table) where
   -- the vertex of a ring in direction i, read at its place
   pub vertex-at : (i : ℕ) {k k' : ℕ} → i < n → k ≡ i * 3 → k' ≡ 768 + i * 3
-      → inOrder ring.order ring (pointAt table k) (pointAt table k') ≡ ringVertex ring (turn_of i n)
+      → in_order ring.order ring (point_at table k) (point_at table k') ≡ ring_vertex ring (turn_of i n)
   vertex-at i h is is' =
-      λ j. inOrder ring.order ring ((ap (pointAt table) is ∙ turns.cosine i h) j)
-      ((ap (pointAt table) is' ∙ turns.sine i h) j)
+      λ j. in_order ring.order ring ((ap (point_at table) is ∙ turns.cosine i h) j)
+      ((ap (point_at table) is' ∙ turns.sine i h) j)
 
   -- and of four directions from i on
   pub four-vertices : (i : ℕ) {k : ℕ} → i + 4 ≤ n → k ≡ i * 3
-      → fourCoordinates (fourOf (inOrder ring.order ring) (fourIn table k) (fourIn table (768 + k)))
-      ≡ blocks 4 (λ j. vertexOn (ringVertex ring) n (i + j))
+      → four_coordinates (four_of (in_order ring.order ring) (four_in table k) (four_in table (768 + k)))
+      ≡ blocks 4 (λ j. vertex_on (ring_vertex ring) n (i + j))
   four-vertices i {k} h is =
       λ j. ((coordinates (vertex-at (i + 0) {k = k} {k' = 768 + k} (omega arith) (omega arith) (omega arith) j)
       ++ coordinates (vertex-at (i + 1) {k = k + 3} {k' = 768 + k + 3} (omega arith) (omega arith) (omega arith) j))

@@ -2,7 +2,7 @@
 use Rattle.std.specs.Prelude.{◌≡◌, List, ◌++◌, ℕ, ◌+◌, ◌*◌, ◌≤◌, ◌<◌, Float, length}
 use Rattle.vec3.specs.Points.{coordinates, thrice}
 use Rattle.vec3.specs.Turns.{turn_of}
-use Rattle.curve.specs.Segments.{pointAt}
+use Rattle.curve.specs.Segments.{point_at}
 use Rattle.rings.specs.declared.four.Four.{Four}
 
 -- The directions round a ring, "(C, Sn) = turn(i, n)" (document 01, 'Frames and vertices'). The
@@ -11,19 +11,19 @@ use Rattle.rings.specs.declared.four.Four.{Four}
 pub record Turns (n : ℕ) (table : List Float) : Type 0 where
   pub most : n ≤ 256
   pub room : 1536 ≤ length table
-  pub cosine : (i : ℕ) → i < n → pointAt table (i * 3) ≡ thrice (turn_of i n).cos
-  pub sine : (i : ℕ) → i < n → pointAt table (768 + i * 3) ≡ thrice (turn_of i n).sin
+  pub cosine : (i : ℕ) → i < n → point_at table (i * 3) ≡ thrice (turn_of i n).cos
+  pub sine : (i : ℕ) → i < n → point_at table (768 + i * 3) ≡ thrice (turn_of i n).sin
 
 -- four points, read and written
-abbrev pub fourIn : List Float → ℕ → Four
-fourIn table p =
+abbrev pub four_in : List Float → ℕ → Four
+four_in table p =
     record {
-      first = pointAt table p;
-      second = pointAt table (p + 3);
-      third = pointAt table (p + 6);
-      fourth = pointAt table (p + 9);
+      first = point_at table p;
+      second = point_at table (p + 3);
+      third = point_at table (p + 6);
+      fourth = point_at table (p + 9);
     }
 
-abbrev pub fourCoordinates : Four → List Float
-fourCoordinates q =
+abbrev pub four_coordinates : Four → List Float
+four_coordinates q =
     ((coordinates q.first ++ coordinates q.second) ++ coordinates q.third) ++ coordinates q.fourth

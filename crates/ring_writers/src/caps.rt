@@ -2,7 +2,7 @@ ghost use Rattle.std.specs.Prelude.{◌≡◌, ◌+◌, ◌*◌, ◌≤◌, leng
 ghost use Rattle.laws.specs.Overwrite.{overwrite};
 ghost use Rattle.surface.specs.declared.caps.End.TheVariants.{Bottom, Top};
 ghost use Rattle.ring_writers.specs.Tables.{Turns};
-ghost use Rattle.ring_writers.specs.Caps.{capRings, endVertices};
+ghost use Rattle.ring_writers.specs.Caps.{cap_rings, end_vertices};
 
 use crate::points::put_point;
 use crate::ring_writer::write_ring;
@@ -22,7 +22,7 @@ fn write_cap(
 )
     requires room { longitudes * (n * 3) ≤ length out.old }
     requires turned { Turns n turns.now }
-    ensures { out.new ≡ overwrite 0 (capRings end axes radius longitudes n) out.old }
+    ensures { out.new ≡ overwrite 0 (cap_rings end axes radius longitudes n) out.old }
 {
     let size = n as usize * 3;
     let mut place: usize = 0;
@@ -52,7 +52,7 @@ pub fn write_bottom(
 )
     requires room { longitudes * (n * 3) + 3 ≤ length out.old }
     requires turned { Turns n turns.now }
-    ensures { out.new ≡ overwrite 0 (endVertices Bottom axes radius longitudes n) out.old }
+    ensures { out.new ≡ overwrite 0 (end_vertices Bottom axes radius longitudes n) out.old }
 {
     put_point(out, 0, axes.origin.sub(axes.ez.scale(radius)));
     write_cap(
@@ -71,7 +71,7 @@ pub fn write_bottom(
 pub fn write_top(out: &mut [f32], axes: Axes, radius: f32, longitudes: u16, n: u16, turns: &[f32])
     requires room { longitudes * (n * 3) + 3 ≤ length out.old }
     requires turned { Turns n turns.now }
-    ensures { out.new ≡ overwrite 0 (endVertices Top axes radius longitudes n) out.old }
+    ensures { out.new ≡ overwrite 0 (end_vertices Top axes radius longitudes n) out.old }
 {
     write_cap(out, End::Top, axes, radius, longitudes, n, turns);
     put_point(

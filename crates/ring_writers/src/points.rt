@@ -1,7 +1,7 @@
 ghost use Rattle.std.specs.Prelude.{◌≡◌, ◌+◌, ◌≤◌, length};
 ghost use Rattle.laws.specs.Overwrite.{overwrite};
 ghost use Rattle.vec3.specs.Points.{coordinates};
-ghost use Rattle.ring_writers.specs.Tables.{fourIn, fourCoordinates};
+ghost use Rattle.ring_writers.specs.Tables.{four_in, four_coordinates};
 
 use curve::point;
 use rings::Four;
@@ -20,7 +20,7 @@ pub fn put_point(out: &mut [f32], at: usize, p: Point)
 // Writes four points one after the other, from index `at` on.
 pub(crate) fn put_four(out: &mut [f32], at: usize, q: Four)
     requires { at + 12 ≤ length out.old }
-    ensures { out.new ≡ overwrite at (fourCoordinates q) out.old }
+    ensures { out.new ≡ overwrite at (four_coordinates q) out.old }
 {
     put_point(out, at, q.first);
     put_point(out, at + 3, q.second);
@@ -31,7 +31,7 @@ pub(crate) fn put_four(out: &mut [f32], at: usize, q: Four)
 // Reads four points that stand one after the other, from index `at` on.
 pub(crate) fn four_at(table: &[f32], at: usize) -> Four
     requires { at + 12 ≤ length table.now }
-    ensures { result ≡ fourIn table.now at }
+    ensures { result ≡ four_in table.now at }
 {
     Four {
         first: point(table, at),

@@ -1,8 +1,8 @@
 ghost use Rattle.std.specs.Prelude.{◌≡◌, ◌+◌, ◌-◌, ◌*◌, ◌≤◌, length};
 ghost use Rattle.laws.specs.Overwrite.{overwrite};
 ghost use Rattle.laws.specs.Blocks.{blocks};
-ghost use Rattle.rings.specs.Vertices.{vertexOn, ringOf, levelAt};
-ghost use Rattle.rings.specs.Rings.{ringVertex};
+ghost use Rattle.rings.specs.Vertices.{vertex_on, ring_of, level_at};
+ghost use Rattle.rings.specs.Rings.{ring_vertex};
 ghost use Rattle.ring_writers.specs.Tables.{Turns};
 
 use crate::points::{four_at, put_four, put_point};
@@ -17,7 +17,7 @@ fn write_fours(out: &mut [f32], at: usize, ring: Ring, n: usize, turns: &[f32]) 
     requires room { at + n * 3 ≤ length out.old }
     requires turned { Turns n turns.now }
     ensures within { result ≤ n }
-    ensures written { out.new ≡ overwrite at (blocks result (vertexOn (ringVertex ring) n)) out.old }
+    ensures written { out.new ≡ overwrite at (blocks result (vertex_on (ring_vertex ring) n)) out.old }
 {
     let mut place = at;
     let mut k: usize = 0;
@@ -37,7 +37,7 @@ fn write_rest(out: &mut [f32], at: usize, ring: Ring, from: usize, n: usize, tur
     requires from_within { from ≤ n }
     requires room { at + n * 3 ≤ length out.old }
     requires turned { Turns n turns.now }
-    ensures { let rest = blocks (n - from) (λ j. vertexOn (ringVertex ring) n (from + j)) in
+    ensures { let rest = blocks (n - from) (λ j. vertex_on (ring_vertex ring) n (from + j)) in
         out.new ≡ overwrite (at + from * 3) rest out.old }
 {
     let mut k = from * 3;
@@ -54,7 +54,7 @@ fn write_rest(out: &mut [f32], at: usize, ring: Ring, from: usize, n: usize, tur
 pub fn write_ring(out: &mut [f32], at: usize, ring: Ring, n: usize, turns: &[f32])
     requires room { at + n * 3 ≤ length out.old }
     requires turned { Turns n turns.now }
-    ensures { out.new ≡ overwrite at (ringOf (ringVertex ring) n) out.old }
+    ensures { out.new ≡ overwrite at (ring_of (ring_vertex ring) n) out.old }
 {
     let written = write_fours(out, at, ring, n, turns);
     write_rest(out, at, ring, written, n, turns);
@@ -64,7 +64,7 @@ pub fn write_ring(out: &mut [f32], at: usize, ring: Ring, n: usize, turns: &[f32
 pub(crate) fn write_level(out: &mut [f32], at: usize, radius: f32, y: f32, n: usize, turns: &[f32])
     requires room { at + n * 3 ≤ length out.old }
     requires turned { Turns n turns.now }
-    ensures { out.new ≡ overwrite at (ringOf (levelAt radius y) n) out.old }
+    ensures { out.new ≡ overwrite at (ring_of (level_at radius y) n) out.old }
 {
     let mut k: usize = 0;
     let mut i: usize = 0;

@@ -1,7 +1,7 @@
 ghost use Rattle.std.specs.Prelude.{◌≡◌, ◌+◌, ◌*◌, ◌≤◌, length};
 ghost use Rattle.laws.specs.Overwrite.{overwrite};
 ghost use Rattle.ring_writers.specs.Tables.{Turns};
-ghost use Rattle.ring_writers.specs.ClosedCylinder.{low_of, cylinderRings, cylinderVertices};
+ghost use Rattle.ring_writers.specs.ClosedCylinder.{low_of, cylinder_rings, cylinder_vertices};
 
 use crate::points::put_point;
 use crate::ring_writer::write_level;
@@ -29,7 +29,7 @@ fn write_levels(
     requires layers_permitted { layers ≤ 4096 }
     requires room { (layers + 1) * (n * 3) ≤ length out.old }
     requires turned { Turns n turns.now }
-    ensures { out.new ≡ overwrite 0 (cylinderRings radius low height layers n) out.old }
+    ensures { out.new ≡ overwrite 0 (cylinder_rings radius low height layers n) out.old }
 {
     let step = height / layers as f32;
     let size = n as usize * 3;
@@ -56,7 +56,7 @@ pub fn cylinder_closed_end_yup(
     requires layers_permitted { layers ≤ 4096 }
     requires room { (layers + 1) * (n * 3) + 6 ≤ length out.old }
     ensures { out.new
-        ≡ overwrite 0 (cylinderVertices radius height n layers centred) out.old }
+        ≡ overwrite 0 (cylinder_vertices radius height n layers centred) out.old }
 {
     let mut turns = [0.0f32; TURN_FLOATS];
     fill_turns(n, &mut turns);

@@ -5,10 +5,10 @@ use Rattle.vec3.specs.declared.frames.Frame.{Frame}
 use Rattle.rings.specs.declared.axes.Axes.{Axes}
 
 -- "ex is the frame; .. ey = cross(ez, ex)"
-unfoldable pub axesAt : Point → Frame → Point → Axes
-axesAt p frame ez = record { origin = p; ex = frame.ex; ey = cross_of ez frame.ex; ez = ez }
+unfoldable pub axes_at : Point → Frame → Point → Axes
+axes_at p frame ez = record { origin = p; ex = frame.ex; ey = cross_of ez frame.ex; ez = ez }
 
 -- ez at a vertex of an open curve between segments along u and w: "inside the normalised sum of
 -- the two normalised segments"
-unfoldable pub betweenOf : Point → Point → Point
-betweenOf u w = normalised (sum_of u w)
+unfoldable pub between_of : Point → Point → Point
+between_of u w = normalised (sum_of u w)

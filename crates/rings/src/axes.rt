@@ -1,5 +1,5 @@
 ghost use Rattle.std.specs.Prelude.{◌≡◌};
-ghost use Rattle.rings.specs.Axes.{axesAt, betweenOf};
+ghost use Rattle.rings.specs.Axes.{axes_at, between_of};
 
 use vec3::{Frame, Point};
 
@@ -14,9 +14,9 @@ pub struct Axes {
 
 impl Axes {
     // The axes at `origin`, with ex from the frame there.
-    #[tactic(auto, unfolding(crate::specs::Axes::axesAt))]
+    #[tactic(auto, unfolding(crate::specs::Axes::axes_at))]
     pub fn at(origin: Point, frame: Frame, ez: Point) -> Axes
-        ensures { result ≡ axesAt origin frame ez }
+        ensures { result ≡ axes_at origin frame ez }
     {
         let ex = frame.ex;
         Axes {
@@ -30,9 +30,9 @@ impl Axes {
 
 // ez at a vertex of an open curve that lies between segments along `u` and `w`: `framez` of
 // polyline3.
-#[tactic(auto, unfolding(crate::specs::Axes::betweenOf))]
+#[tactic(auto, unfolding(crate::specs::Axes::between_of))]
 pub fn framez(u: Point, w: Point) -> Point
-    ensures { result ≡ betweenOf u w }
+    ensures { result ≡ between_of u w }
 {
     u.add(w).normalize()
 }

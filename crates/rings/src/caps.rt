@@ -1,5 +1,5 @@
 ghost use Rattle.std.specs.Prelude.{◌≡◌, ◌-◌};
-ghost use Rattle.rings.specs.Rings.{capRing};
+ghost use Rattle.rings.specs.Rings.{cap_ring};
 
 use crate::axes::Axes;
 use crate::ring::{Order, Ring};
@@ -19,7 +19,7 @@ fn rings_above(longitudes: u16, j: u16) -> u16
 
 // Ring `j` of the `longitudes` rings of a cap at the end of a curve.
 pub fn cap_ring(end: End, axes: Axes, radius: f32, longitudes: u16, j: u16) -> Ring
-    ensures { result ≡ capRing end axes radius longitudes j }
+    ensures { result ≡ cap_ring end axes radius longitudes j }
 {
     let quarters = 4 * longitudes as u32;
     match end {

@@ -1,5 +1,5 @@
 ghost use Rattle.std.specs.Prelude.{◌≡◌};
-ghost use Rattle.rings.specs.Rings.{inOrder, fourOf};
+ghost use Rattle.rings.specs.Rings.{in_order, four_of};
 
 use crate::ring::Ring;
 use vec3::Point;
@@ -17,7 +17,7 @@ impl Ring {
     // The vertices in four directions. All four have the ring's order of terms, so the compiler
     // takes the question which order it is out of the loop that calls this.
     pub fn four(self, cos: Four, sin: Four) -> Four
-        ensures { result ≡ fourOf (inOrder self.order self) cos sin }
+        ensures { result ≡ four_of (in_order self.order self) cos sin }
     {
         Four {
             first: self.vertex(cos.first, sin.first),

@@ -1,5 +1,5 @@
 ghost use Rattle.std.specs.Prelude.{◌≡◌};
-ghost use Rattle.rings.specs.Rings.{ringAround, twoTerms, sumFirst, inOrder};
+ghost use Rattle.rings.specs.Rings.{ring_around, two_terms, sum_first, in_order};
 
 use crate::axes::Axes;
 use vec3::Point;
@@ -26,9 +26,9 @@ pub struct Ring {
 
 impl Ring {
     // The ring round a centre, in the plane of the axes' ex and ey.
-    #[tactic(auto, unfolding(crate::specs::Rings::ringAround))]
+    #[tactic(auto, unfolding(crate::specs::Rings::ring_around))]
     pub fn around(order: Order, axes: Axes, centre: Point, radius: f32) -> Ring
-        ensures { result ≡ ringAround order axes centre radius }
+        ensures { result ≡ ring_around order axes centre radius }
     {
         let ex = axes.ex;
         let ey = axes.ey;
@@ -44,9 +44,9 @@ impl Ring {
     // Adds two terms to the centre, one after the other. A term is an axis by the radius by a
     // cosine or a sine. These come as points that hold them three times, because the processor
     // then works out the coordinates of several vertices alike, several at a time.
-    #[tactic(auto, unfolding(crate::specs::Rings::twoTerms))]
+    #[tactic(auto, unfolding(crate::specs::Rings::two_terms))]
     fn two_terms(self, first: Point, a: Point, second: Point, b: Point) -> Point
-        ensures { result ≡ twoTerms self first a second b }
+        ensures { result ≡ two_terms self first a second b }
     {
         let r = Point::thrice(self.radius);
         self.centre
@@ -54,9 +54,9 @@ impl Ring {
             .add(second.product(r.product(b)))
     }
 
-    #[tactic(auto, unfolding(crate::specs::Rings::sumFirst))]
+    #[tactic(auto, unfolding(crate::specs::Rings::sum_first))]
     fn sum_first(self, cos: Point, sin: Point) -> Point
-        ensures { result ≡ sumFirst self cos sin }
+        ensures { result ≡ sum_first self cos sin }
     {
         self.centre.add(
             self.ex
@@ -68,7 +68,7 @@ impl Ring {
 
     // The vertex in a direction.
     pub fn vertex(self, cos: Point, sin: Point) -> Point
-        ensures { result ≡ inOrder self.order self cos sin }
+        ensures { result ≡ in_order self.order self cos sin }
     {
         let order = self.order;
         match order {

@@ -7,8 +7,8 @@ use lib.Ieee.{Float}
 use lib.ListN.{length}
 use Rattle.twists.specs.declared.twist.Twist.{Twist}
 use Rattle.swept_bodies.proofs.Lengths.{length-loop}
-use Rattle.seamless_torus.specs.Polyloop3.{smoothFrame, seamlessVertices}
+use Rattle.seamless_torus.specs.Polyloop3.{smooth_frame, seamless_vertices}
 
 pub length-seamless : (k : Twist) (n : ℕ) (r : Float) (N : ℕ) (c : List Float)
-    → length (seamlessVertices k n r N c) ≡ N * (n * 3)
-length-seamless k n r N c = length-loop (smoothFrame k N c) n r N c
+    → length (seamless_vertices k n r N c) ≡ N * (n * 3)
+length-seamless k n r N c = length-loop (smooth_frame k N c) n r N c

@@ -1,7 +1,7 @@
 ghost use Rattle.std.specs.Prelude.{◌≡◌, ◌-◌, ◌*◌, ◌≤◌, length};
 ghost use Rattle.laws.specs.Overwrite.{overwrite};
-ghost use Rattle.swept_bodies.specs.Tables.{carriedIn};
-ghost use Rattle.seamless_torus.specs.Frames.{framesIn, ends_at};
+ghost use Rattle.swept_bodies.specs.Tables.{carried_in};
+ghost use Rattle.seamless_torus.specs.Frames.{frames_in, ends_at};
 
 use curve::{Carried, point};
 use ring_writers::put_point;
@@ -13,8 +13,8 @@ pub(crate) fn fill_frames(count: u16, directions: &[f32], frames: &mut [f32]) ->
     requires segment { 1 ≤ count }
     requires directions_room { count * 3 ≤ length directions.now }
     requires room { count * 3 ≤ length frames.old }
-    ensures carried { result ≡ carriedIn directions.now (count - 1) }
-    ensures written { let table = framesIn directions.now count in
+    ensures carried { result ≡ carried_in directions.now (count - 1) }
+    ensures written { let table = frames_in directions.now count in
         frames.new ≡ overwrite 0 table frames.old }
 {
     let mut carried = Carried::first(point(directions, 0));

@@ -1,12 +1,12 @@
 ghost use Rattle.std.specs.Prelude.{◌≡◌, ◌*◌, ◌≤◌, length};
 ghost use Rattle.laws.specs.Overwrite.{overwrite};
-ghost use Rattle.curve.specs.Segments.{verticesIn};
+ghost use Rattle.curve.specs.Segments.{vertices_in};
 ghost use Rattle.surface.specs.declared.grid.Chain.TheVariants.{Closed};
 ghost use Rattle.swept_bodies.specs.Tables.{DirectionTable, ClosedCurve};
 ghost use Rattle.swept_bodies.specs.Swept.{ClosedSweep};
-ghost use Rattle.twists.specs.Chosen.{foundFor};
+ghost use Rattle.twists.specs.Chosen.{found_for};
 ghost use Rattle.seamless_torus.specs.Frames.{FrameTable};
-ghost use Rattle.seamless_torus.specs.Polyloop3.{endsOf, endsFinite, twistOf, drawnRadius, seamlessVertices};
+ghost use Rattle.seamless_torus.specs.Polyloop3.{ends_of, ends_finite, twist_of, drawn_radius, seamless_vertices};
 
 use crate::frames::{ends_at, fill_frames};
 use curve::point;
@@ -22,7 +22,7 @@ fn find_twist(curve: &[f32], count: u16, directions: &[f32], frames: &mut [f32])
     requires segment { 1 ≤ count }
     requires table { DirectionTable Closed count curve.now directions.now }
     requires frames_room { count * 3 ≤ length frames.old }
-    ensures found { result ≡ foundFor (endsOf count curve.now).c0 (endsOf count curve.now).s0 }
+    ensures found { result ≡ found_for (ends_of count curve.now).c0 (ends_of count curve.now).s0 }
     ensures frame_table { FrameTable count curve.now frames.new }
 {
     let last = fill_frames(count, directions, frames);
@@ -48,7 +48,7 @@ fn write_rings(
     requires frame_table { FrameTable sweep.segments curve.now frames.now }
     requires room { sweep.segments * (sweep.divisions * 3) ≤ length out.old }
     ensures { let c = curve.now in
-        let rings = seamlessVertices twist sweep.divisions sweep.radius sweep.segments c in
+        let rings = seamless_vertices twist sweep.divisions sweep.radius sweep.segments c in
         out.new ≡ overwrite 0 rings out.old }
 {
     let order = sweep.order;
@@ -75,7 +75,7 @@ fn write_rings(
 // The radius that the vertices are written with: a NaN where c0, s0 or a score is not finite, so
 // that no vertex is finite, which is refused (23).
 fn drawn_radius(radius: f32, finite: bool) -> f32
-    ensures { result ≡ drawnRadius radius finite }
+    ensures { result ≡ drawn_radius radius finite }
 {
     if finite {
         return radius;
@@ -93,13 +93,13 @@ pub fn to_trimesh3_seamless_torus(
     r: f32,
 )
     requires closed_curve { ClosedCurve curve.now directions.now }
-    requires frames_room { verticesIn curve.now * 3 ≤ length frames.old }
+    requires frames_room { vertices_in curve.now * 3 ≤ length frames.old }
     requires divisions_permitted { n ≤ 256 }
-    requires room { verticesIn curve.now * (n * 3) ≤ length out.old }
+    requires room { vertices_in curve.now * (n * 3) ≤ length out.old }
     ensures { let c = curve.now in
-        let N = verticesIn c in
+        let N = vertices_in c in
         out.new
-        ≡ overwrite 0 (seamlessVertices (twistOf N c) n (drawnRadius r (endsFinite N c)) N c) out.old }
+        ≡ overwrite 0 (seamless_vertices (twist_of N c) n (drawn_radius r (ends_finite N c)) N c) out.old }
 {
     let count = (curve.len() / 3) as u16;
     let found = find_twist(curve, count, directions, frames);

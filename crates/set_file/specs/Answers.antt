@@ -5,6 +5,6 @@ use Rattle.answers.specs.Answers.{Answer, refused, accepted, number_of}
 use Rattle.set_file.specs.declared.word.FileWord.{FileWord}
 use Rattle.set_file.specs.declared.word.FileWord.TheVariants as fileWord
 
-abbrev pub wordAnswer : FileWord → Answer ℕ
-wordAnswer (fileWord.Word w) = accepted w
-wordAnswer (fileWord.Refused why) = refused (number_of why)
+abbrev pub word_answer : FileWord → Answer ℕ
+word_answer (fileWord.Word w) = accepted w
+word_answer (fileWord.Refused why) = refused (number_of why)

@@ -1,10 +1,10 @@
 ghost use Rattle.std.specs.Prelude.{◌≡◌, ◌+◌, ◌*◌, ◌≤◌, ◌<◌, length, get_or};
-ghost use Rattle.surface.specs.Limits.{mostInAll};
-ghost use Rattle.set_table.specs.Entries.{tableWords};
-ghost use Rattle.set_table.specs.Room.{mostBodies};
+ghost use Rattle.surface.specs.Limits.{most_in_all};
+ghost use Rattle.set_table.specs.Entries.{table_words};
+ghost use Rattle.set_table.specs.Room.{most_bodies};
 ghost use Rattle.set_table.specs.Buffers.{buffers};
-ghost use Rattle.set_file.specs.Answers.{wordAnswer};
-ghost use Rattle.set_file.specs.File.{fileHead, fileBody, entriesHeld, floatsHeld, indicesHeld, word_in, fileWordOf};
+ghost use Rattle.set_file.specs.Answers.{word_answer};
+ghost use Rattle.set_file.specs.File.{file_head, file_body, entries_held, floats_held, indices_held, word_in, file_word_of};
 
 use crate::word::FileWord;
 use answers::Refusal;
@@ -19,9 +19,9 @@ const FILE_HEAD: usize = 4;
 // Word `place` of the file's head.
 fn head_word(totals: Totals, place: usize) -> u32
     requires place_bound { place < 4 }
-    requires vertices_le_most_in_all { totals.vertices ≤ mostInAll }
-    requires triangles_le_most_in_all { totals.triangles ≤ mostInAll }
-    ensures { result ≡ get_or (fileHead totals) place 0 }
+    requires vertices_le_most_in_all { totals.vertices ≤ most_in_all }
+    requires triangles_le_most_in_all { totals.triangles ≤ most_in_all }
+    ensures { result ≡ get_or (file_head totals) place 0 }
 {
     match place {
         0 => EDITION,
@@ -39,12 +39,12 @@ fn body_word(
     triangles: &[u32],
     place: usize,
 ) -> FileWord
-    requires bodies_le_most_bodies { totals.bodies ≤ mostBodies }
-    requires bodies_in_bounds { tableWords totals.bodies ≤ length table.now }
+    requires bodies_le_most_bodies { totals.bodies ≤ most_bodies }
+    requires bodies_in_bounds { table_words totals.bodies ≤ length table.now }
     requires vertices_in_bounds { 3 * totals.vertices ≤ length vertices.now }
     requires triangles_in_bounds { 3 * totals.triangles ≤ length triangles.now }
     ensures { let s = buffers table.now vertices.now triangles.now in
-        wordAnswer result ≡ word_in (fileBody (entriesHeld totals s) (floatsHeld totals s) (indicesHeld totals s)) place }
+        word_answer result ≡ word_in (file_body (entries_held totals s) (floats_held totals s) (indices_held totals s)) place }
 {
     let entries = ENTRY_WORDS * totals.bodies as usize;
     if place < entries {
@@ -66,7 +66,7 @@ fn body_word(
 // are refused.
 pub fn file_word(table: &[u32], vertices: &[f32], triangles: &[u32], place: usize) -> FileWord
     ensures { let s = buffers table.now vertices.now triangles.now in
-        wordAnswer result ≡ fileWordOf s place }
+        word_answer result ≡ file_word_of s place }
 {
     match read(table, vertices.len(), triangles.len()) {
         Reading::Damaged => FileWord::Refused(Refusal::DamagedTable),

@@ -7,21 +7,21 @@ use native.Mathlib.Omega.{arith}
 use borrow.Author.Tests.{leb-true, eqb-false, not-true}
 use lib.Dec.{eqb, leb}
 use Rattle.laws.specs.Conjunction.{both_true}
-use Rattle.set_table.specs.Entries.{tableWords}
-use Rattle.set_table.specs.Room.{Lengths, Fits, mostBodies, entryPermitted}
+use Rattle.set_table.specs.Entries.{table_words}
+use Rattle.set_table.specs.Room.{Lengths, Fits, most_bodies, entry_permitted}
 use Rattle.set_table.specs.declared.totals.Totals.{Totals}
 use Rattle.surface.proofs.Totals.{fits-bounds}
 
-entry-permitted : (B lent : ℕ) → B ≤ mostBodies → entryPermitted B lent ≡ true → (B < mostBodies) × (tableWords (B + 1) ≤ lent)
-unfolding entryPermitted
+entry-permitted : (B lent : ℕ) → B ≤ most_bodies → entry_permitted B lent ≡ true → (B < most_bodies) × (table_words (B + 1) ≤ lent)
+unfolding entry_permitted
 entry-permitted B lent most h =
-    let both = both_true (not (eqb B mostBodies)) (leb (tableWords (B + 1)) lent) h in
-    let other = eqb-false B mostBodies (not-true (eqb B mostBodies) both.0) in
-    (omega arith, leb-true (tableWords (B + 1)) lent both.1)
+    let both = both_true (not (eqb B most_bodies)) (leb (table_words (B + 1)) lent) h in
+    let other = eqb-false B most_bodies (not-true (eqb B most_bodies) both.0) in
+    (omega arith, leb-true (table_words (B + 1)) lent both.1)
 
 -- v and f: how many vertices and triangles are added to those of the set
 pub record Fitting (lent : Lengths) (t : Totals) (v f : ℕ) : Type 0 where
-  pub entry : (t.bodies < mostBodies) × (tableWords (t.bodies + 1) ≤ lent.table)
+  pub entry : (t.bodies < most_bodies) × (table_words (t.bodies + 1) ≤ lent.table)
   pub vertices : (t.vertices + v ≤ 2 ^ 28) × (3 * (t.vertices + v) ≤ lent.vertices)
   pub triangles : (t.triangles + f ≤ 2 ^ 28) × (3 * (t.triangles + f) ≤ lent.triangles)
 

@@ -5,6 +5,6 @@ use Rattle.set_table.specs.declared.totals.Totals.{Totals}
 use Rattle.set_table.specs.declared.totals.Reading.{Reading}
 use Rattle.set_table.specs.declared.totals.Reading.TheVariants as reading
 
-abbrev pub readingAnswer : Reading → Answer Totals
-readingAnswer (reading.Sound t) = accepted t
-readingAnswer reading.Damaged = refused 1
+abbrev pub reading_answer : Reading → Answer Totals
+reading_answer (reading.Sound t) = accepted t
+reading_answer reading.Damaged = refused 1

@@ -12,5 +12,5 @@ pub record Buffers : Type 0 where
 abbrev pub buffers : List ℕ → List Float → List ℕ → Buffers
 buffers table vertices triangles = record { table = table; vertices = vertices; triangles = triangles }
 
-abbrev pub lengthsOf : Buffers → Lengths
-lengthsOf s = lengths (length s.table) (length s.vertices) (length s.triangles)
+abbrev pub lengths_of : Buffers → Lengths
+lengths_of s = lengths (length s.table) (length s.vertices) (length s.triangles)

@@ -1,7 +1,7 @@
 ghost use Rattle.std.specs.Prelude.{◌≡◌, ◌+◌, ◌≤◌, ◌<◌, length};
-ghost use Rattle.set_table.specs.Entries.{tableWords, entryIn};
-ghost use Rattle.set_table.specs.Room.{mostBodies};
-ghost use Rattle.set_table.specs.Table.{withEntry};
+ghost use Rattle.set_table.specs.Entries.{table_words, entry_in};
+ghost use Rattle.set_table.specs.Room.{most_bodies};
+ghost use Rattle.set_table.specs.Table.{with_entry};
 
 // How many words of the table an entry takes.
 pub const ENTRY_WORDS: usize = 6;
@@ -23,9 +23,9 @@ pub struct Entry {
 
 // Reads entry `j` of a table that has it.
 pub(crate) fn read_entry(table: &[u32], j: u32) -> Entry
-    requires j_lt_most_bodies { j < mostBodies }
-    requires j_in_bounds { tableWords (j + 1) ≤ length table.now }
-    ensures { result ≡ entryIn table.now j }
+    requires j_lt_most_bodies { j < most_bodies }
+    requires j_in_bounds { table_words (j + 1) ≤ length table.now }
+    ensures { result ≡ entry_in table.now j }
 {
     let at = 1 + ENTRY_WORDS * j as usize;
     Entry {
@@ -40,9 +40,9 @@ pub(crate) fn read_entry(table: &[u32], j: u32) -> Entry
 
 // Writes the entry that follows those of `bodies` bodies, and raises word 0 to count it.
 pub fn write_entry(table: &mut [u32], bodies: u32, entry: Entry)
-    requires bodies_lt_most_bodies { bodies < mostBodies }
-    requires bodies_in_bounds { tableWords (bodies + 1) ≤ length table.old }
-    ensures { table.new ≡ withEntry bodies entry table.old }
+    requires bodies_lt_most_bodies { bodies < most_bodies }
+    requires bodies_in_bounds { table_words (bodies + 1) ≤ length table.old }
+    ensures { table.new ≡ with_entry bodies entry table.old }
 {
     let at = 1 + ENTRY_WORDS * bodies as usize;
     table[at] = entry.kind;

@@ -1,8 +1,8 @@
 ghost use Rattle.std.specs.Prelude.{◌≡◌, ◌+◌};
 ghost use Rattle.surface.specs.Limits.{fits};
-ghost use Rattle.kinds.specs.Kinds.{vertexCount, triangleCount};
-ghost use Rattle.answers.specs.Answers.{first_of, outcomeAnswer};
-ghost use Rattle.set_table.specs.Room.{lengths, entryPermitted, roomTests};
+ghost use Rattle.kinds.specs.Kinds.{vertex_count, triangle_count};
+ghost use Rattle.answers.specs.Answers.{first_of, outcome_answer};
+ghost use Rattle.set_table.specs.Room.{lengths, entry_permitted, room_tests};
 
 use crate::entries::{ENTRY_WORDS, MOST_BODIES};
 use crate::totals::Totals;
@@ -26,7 +26,7 @@ fn is_sum_permitted(total: usize, more: u64, length: usize) -> bool
 
 // Whether a table of `length` words has room for one entry more.
 fn is_entry_permitted(bodies: u32, length: usize) -> bool
-    ensures { result ≡ entryPermitted bodies length }
+    ensures { result ≡ entry_permitted bodies length }
 {
     bodies != MOST_BODIES && 1 + ENTRY_WORDS * (bodies as usize + 1) <= length
 }
@@ -40,8 +40,8 @@ pub fn check_fit(
     vertices: usize,
     triangles: usize,
 ) -> Outcome
-    ensures { outcomeAnswer result
-        ≡ first_of (roomTests (lengths table vertices triangles) totals (vertexCount body) (triangleCount body)) tt }
+    ensures { outcome_answer result
+        ≡ first_of (room_tests (lengths table vertices triangles) totals (vertex_count body) (triangle_count body)) tt }
 {
     if !is_entry_permitted(totals.bodies, table) {
         return Outcome::Refused(Refusal::NoEntry);

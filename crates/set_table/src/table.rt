@@ -1,6 +1,6 @@
 ghost use Rattle.std.specs.Prelude.{◌≡◌};
-ghost use Rattle.set_table.specs.Answers.{readingAnswer};
-ghost use Rattle.set_table.specs.Table.{entrySound, headSound, reading_of};
+ghost use Rattle.set_table.specs.Answers.{reading_answer};
+ghost use Rattle.set_table.specs.Table.{entry_sound, head_sound, reading_of};
 
 use crate::entries::{ENTRY_WORDS, Entry, MOST_BODIES, read_entry};
 use crate::totals::{Reading, Totals};
@@ -8,9 +8,9 @@ use descriptions::LAST_KIND;
 
 // Whether an entry has a known kind and may follow bodies that have `vertices` vertices and
 // `triangles` triangles.
-#[tactic(auto, unfolding(crate::specs::Table::entrySound))]
+#[tactic(auto, unfolding(crate::specs::Table::entry_sound))]
 fn is_entry_sound(entry: Entry, vertices: usize, triangles: usize) -> bool
-    ensures { result ≡ entrySound entry vertices triangles }
+    ensures { result ≡ entry_sound entry vertices triangles }
 {
     1 <= entry.kind
         && entry.kind <= LAST_KIND
@@ -20,7 +20,7 @@ fn is_entry_sound(entry: Entry, vertices: usize, triangles: usize) -> bool
 
 // Whether the table has word 0 and as many entries as it says.
 fn is_head_sound(table: &[u32]) -> bool
-    ensures { result ≡ headSound table.now }
+    ensures { result ≡ head_sound table.now }
 {
     if table.len() == 0 {
         return false;
@@ -32,7 +32,7 @@ fn is_head_sound(table: &[u32]) -> bool
 // Reads what the table says, or finds it damaged (1). `vertices` and `triangles` are the lengths
 // of the other two buffers. The sums of 64 counts of 32 bits do not wrap a usize.
 pub fn read(table: &[u32], vertices: usize, triangles: usize) -> Reading
-    ensures { readingAnswer result ≡ reading_of table.now vertices triangles }
+    ensures { reading_answer result ≡ reading_of table.now vertices triangles }
 {
     if !is_head_sound(table) {
         return Reading::Damaged;

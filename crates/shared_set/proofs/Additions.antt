@@ -8,26 +8,26 @@ use lib.Dec.{eqb}
 use lib.Ieee.{Float}
 use lib.ListN.{length}
 use Rattle.kinds.specs.declared.topology.Topology.{Topology}
-use Rattle.curve.specs.Segments.{verticesIn}
-use Rattle.answers.specs.Answers.{Answer, Test, AllPermitted, refused, accepted, first_of, notFinite}
+use Rattle.curve.specs.Segments.{vertices_in}
+use Rattle.answers.specs.Answers.{Answer, Test, AllPermitted, refused, accepted, first_of, not_finite}
 use Rattle.answers.proofs.FirstOf.{accepted-by, passed-by, passed-within, refused-by, other-than}
-use Rattle.descriptions.specs.Descriptions.{topologyOf}
-use Rattle.descriptions.specs.Refusals.{ShapePermitted, segmentTests, foldTests, curveFoldsPermitted}
+use Rattle.descriptions.specs.Descriptions.{topology_of}
+use Rattle.descriptions.specs.Refusals.{ShapePermitted, segment_tests, fold_tests, curve_folds_permitted}
 use Rattle.descriptions.specs.declared.description.Description.{Description}
 use Rattle.descriptions.proofs.Shapes.{segments-shape}
 use Rattle.set_table.specs.Room.{Lengths}
 use Rattle.set_table.specs.Buffers.{Buffers}
 use Rattle.set_table.specs.declared.totals.Totals.{Totals}
 use Rattle.shared_set.specs.Bodies.{Body}
-use Rattle.shared_set.specs.Additions.{Addition, fitTests, finiteTests, placeTests, additionTests}
-use Rattle.shared_set.specs.Set.{after, withZeros, afterAnswer}
+use Rattle.shared_set.specs.Additions.{Addition, fit_tests, finite_tests, place_tests, addition_tests}
+use Rattle.shared_set.specs.Set.{after, with_zeros, after_answer}
 
 -- "leave all buffers untouched, save 23"
-pub untouched : {k : ℕ} (t : Totals) (b : Body) (s : Buffers) {answer : Answer (Unit {0})} → eqb k notFinite ≡ false → refused k ≡ answer
-    → after (refused k) s.table s.vertices s.triangles ≡ afterAnswer t b s answer
+pub untouched : {k : ℕ} (t : Totals) (b : Body) (s : Buffers) {answer : Answer (Unit {0})} → eqb k not_finite ≡ false → refused k ≡ answer
+    → after (refused k) s.table s.vertices s.triangles ≡ after_answer t b s answer
 untouched {k} t b s other h =
-    (λ j. after (refused k) s.table (cond (sym other j) (withZeros t b s.vertices) s.vertices) s.triangles)
-    ∙ ap (afterAnswer t b s) h
+    (λ j. after (refused k) s.table (cond (sym other j) (with_zeros t b s.vertices) s.vertices) s.triangles)
+    ∙ ap (after_answer t b s) h
 
 abbrev pub answer_of : List Test → Answer (Unit {0})
 answer_of tests = first_of tests tt
@@ -41,50 +41,50 @@ module _ (a : Addition) where
 
   -- what a body is that 10, 20, 21, 22, 11 and 12 let pass
   pub record Checked (body : Topology) : Type 0 where
-    pub same : body ≡ topologyOf d (verticesIn c)
-    pub tests : AllPermitted (segmentTests d c)
-    pub shape : ShapePermitted d (verticesIn c)
+    pub same : body ≡ topology_of d (vertices_in c)
+    pub tests : AllPermitted (segment_tests d c)
+    pub shape : ShapePermitted d (vertices_in c)
 
-  pub checked : {body : Topology} → accepted body ≡ first_of (segmentTests d c) (topologyOf d (verticesIn c)) → Checked body
+  pub checked : {body : Topology} → accepted body ≡ first_of (segment_tests d c) (topology_of d (vertices_in c)) → Checked body
   checked h =
-      let told = accepted-by (segmentTests d c) (topologyOf d (verticesIn c)) h in
+      let told = accepted-by (segment_tests d c) (topology_of d (vertices_in c)) h in
       record { same = told.0; tests = told.1; shape = (segments-shape d c told.1).1 }
 
   module _ (lent : Lengths) (t : Totals) where
     abbrev place : List Test
-    place = placeTests lent t a
+    place = place_tests lent t a
 
     -- 10 to 12, then 13, then the others
-    in_order : answer_of (segmentTests d c ++ (foldTests d c ++ place)) ≡ answer_of (additionTests lent t a)
-    in_order = ap answer_of (sym (append_assoc (segmentTests d c) (foldTests d c) place))
+    same_order : answer_of (segment_tests d c ++ (fold_tests d c ++ place)) ≡ answer_of (addition_tests lent t a)
+    same_order = ap answer_of (sym (append_assoc (segment_tests d c) (fold_tests d c) place))
 
     -- the first six refuse it
-    pub refused-early : {k : ℕ} → refused k ≡ first_of (segmentTests d c) (topologyOf d (verticesIn c))
-        → (eqb k notFinite ≡ false) × (refused k ≡ answer_of (additionTests lent t a))
+    pub refused-early : {k : ℕ} → refused k ≡ first_of (segment_tests d c) (topology_of d (vertices_in c))
+        → (eqb k not_finite ≡ false) × (refused k ≡ answer_of (addition_tests lent t a))
     refused-early h = (
-      other-than notFinite (segmentTests d c) (topologyOf d (verticesIn c)) (refl, (refl, (refl, (refl, (refl, (refl, tt)))))) h,
-      refused-by (segmentTests d c) (foldTests d c ++ place) (topologyOf d (verticesIn c)) tt h ∙ in_order,
+      other-than not_finite (segment_tests d c) (topology_of d (vertices_in c)) (refl, (refl, (refl, (refl, (refl, (refl, tt)))))) h,
+      refused-by (segment_tests d c) (fold_tests d c ++ place) (topology_of d (vertices_in c)) tt h ∙ same_order,
     )
 
-    module _ (h : AllPermitted (segmentTests d c)) where
-      after-segments : answer_of (foldTests d c ++ place) ≡ answer_of (additionTests lent t a)
-      after-segments = passed-by (segmentTests d c) (foldTests d c ++ place) tt h ∙ in_order
+    module _ (h : AllPermitted (segment_tests d c)) where
+      after-segments : answer_of (fold_tests d c ++ place) ≡ answer_of (addition_tests lent t a)
+      after-segments = passed-by (segment_tests d c) (fold_tests d c ++ place) tt h ∙ same_order
 
       -- a fold (13), or else 2, 3 or 4, refuses it
-      fold-or : (folds : Bool) {k : ℕ} → refused k ≡ answer_of (fitTests lent t d c)
+      fold-or : (folds : Bool) {k : ℕ} → refused k ≡ answer_of (fit_tests lent t d c)
           → refused (cond folds k 13) ≡ cond folds (answer_of place) (refused 13)
-      fold-or true e = refused-by (fitTests lent t d c) (finiteTests a) tt tt e
+      fold-or true e = refused-by (fit_tests lent t d c) (finite_tests a) tt tt e
       fold-or false e = refl
 
-      other-fold : (folds : Bool) {k : ℕ} → refused k ≡ answer_of (fitTests lent t d c) → eqb (cond folds k 13) notFinite ≡ false
-      other-fold true e = other-than notFinite (fitTests lent t d c) tt (refl, (refl, (refl, tt))) e
+      other-fold : (folds : Bool) {k : ℕ} → refused k ≡ answer_of (fit_tests lent t d c) → eqb (cond folds k 13) not_finite ≡ false
+      other-fold true e = other-than not_finite (fit_tests lent t d c) tt (refl, (refl, (refl, tt))) e
       other-fold false e = refl
 
-      pub refused-room : {k : ℕ} → refused k ≡ answer_of (fitTests lent t d c) → let n = cond (curveFoldsPermitted d c) k 13 in
-          (eqb n notFinite ≡ false) × (refused n ≡ answer_of (additionTests lent t a))
-      refused-room e = (other-fold (curveFoldsPermitted d c) e, fold-or (curveFoldsPermitted d c) e ∙ after-segments)
+      pub refused-room : {k : ℕ} → refused k ≡ answer_of (fit_tests lent t d c) → let n = cond (curve_folds_permitted d c) k 13 in
+          (eqb n not_finite ≡ false) × (refused n ≡ answer_of (addition_tests lent t a))
+      refused-room e = (other-fold (curve_folds_permitted d c) e, fold-or (curve_folds_permitted d c) e ∙ after-segments)
 
       -- where it has room, 13 and 23 are left to be tried
-      pub enough-room : AllPermitted (fitTests lent t d c)
-          → answer_of (foldTests d c ++ finiteTests a) ≡ answer_of (additionTests lent t a)
-      enough-room fit = passed-within (foldTests d c) (fitTests lent t d c) (finiteTests a) tt fit ∙ after-segments
+      pub enough-room : AllPermitted (fit_tests lent t d c)
+          → answer_of (fold_tests d c ++ finite_tests a) ≡ answer_of (addition_tests lent t a)
+      enough-room fit = passed-within (fold_tests d c) (fit_tests lent t d c) (finite_tests a) tt fit ∙ after-segments

@@ -14,37 +14,37 @@ use Rattle.laws.specs.Parts.{part}
 use Rattle.laws.specs.Overwrite.{overwrite}
 use Rattle.laws.specs.Overlaps.{overwrite-cover}
 use Rattle.laws.specs.Lent.{part-written}
-use Rattle.float32.specs.Scan.{allFinite}
+use Rattle.float32.specs.Scan.{all_finite}
 use Rattle.float32.specs.Zeros.{zeros}
 use Rattle.float32.proofs.ZeroCounts.{length-zeros}
-use Rattle.kinds.specs.Kinds.{vertexCount}
+use Rattle.kinds.specs.Kinds.{vertex_count}
 use Rattle.kinds.specs.declared.topology.Topology.{Topology}
-use Rattle.curve.specs.Segments.{verticesIn}
-use Rattle.descriptions.specs.Descriptions.{topologyOf}
+use Rattle.curve.specs.Segments.{vertices_in}
+use Rattle.descriptions.specs.Descriptions.{topology_of}
 use Rattle.descriptions.specs.Refusals.{ShapePermitted}
 use Rattle.descriptions.specs.declared.description.Description.{Description}
-use Rattle.bodies.specs.Bodies.{verticesOf, twistFinite, floatsFinite, twistTaken, drawnOf}
+use Rattle.bodies.specs.Bodies.{vertices_of, twist_finite, floats_finite, twist_taken, drawn_of}
 use Rattle.bodies.proofs.Lengths.{length-vertices, length-drawn}
 use Rattle.bodies.proofs.Drawn.{drawn-whole, drawn-finite}
 
-module _ (d : Description) (c : List Float) (body : Topology) (first : ℕ) (old : List Float) (shape : ShapePermitted d (verticesIn c))
-    (same : body ≡ topologyOf d (verticesIn c)) (room : 3 * (first + vertexCount body) ≤ length old) where
+module _ (d : Description) (c : List Float) (body : Topology) (first : ℕ) (old : List Float) (shape : ShapePermitted d (vertices_in c))
+    (same : body ≡ topology_of d (vertices_in c)) (room : 3 * (first + vertex_count body) ≤ length old) where
   abbrev at : ℕ
   at = 3 * first
 
   abbrev size : ℕ
-  size = 3 * vertexCount body
+  size = 3 * vertex_count body
 
   -- what is written, and the body's vertices
   abbrev list : List Float
-  list = drawnOf d c
+  list = drawn_of d c
 
   abbrev alone : List Float
-  alone = verticesOf (twistTaken d c) d c
+  alone = vertices_of (twist_taken d c) d c
 
   -- what 23 asks
   abbrev fine : Bool
-  fine = floatsFinite (twistTaken d c) d c
+  fine = floats_finite (twist_taken d c) d c
 
   -- what the scan leaves, by its answer
   abbrev left : Bool → List Float → List Float → List Float
@@ -52,11 +52,11 @@ module _ (d : Description) (c : List Float) (body : Topology) (first : ℕ) (old
 
   stands : part at size (overwrite at list old) ≡ list
   stands =
-      let sized : length list ≡ size = omega (arith, length-drawn d c shape, ap vertexCount same) in
+      let sized : length list ≡ size = omega (arith, length-drawn d c shape, ap vertex_count same) in
       part-written at size list old sized (omega arith)
 
-  pub scanned : {finite : Bool} → finite ≡ allFinite (part at size (overwrite at list old)) → finite ≡ fine
-  scanned h = h ∙ ap allFinite stands ∙ drawn-finite d c shape
+  pub scanned : {finite : Bool} → finite ≡ all_finite (part at size (overwrite at list old)) → finite ≡ fine
+  scanned h = h ∙ ap all_finite stands ∙ drawn-finite d c shape
 
   covered : (finite : Bool) → left finite list (overwrite at list old) ≡ left finite list old
   covered true = overwrite-cover at list list old (omega arith)
@@ -66,10 +66,10 @@ module _ (d : Description) (c : List Float) (body : Topology) (first : ℕ) (old
   same_left : (finite : Bool) → finite ≡ fine → left finite list old ≡ left finite alone old
   same_left true h =
       ap (λ (l : List Float). overwrite at l old)
-      (drawn-whole d c (both_true (twistFinite d c) (allFinite alone) (sym h)).0)
+      (drawn-whole d c (both_true (twist_finite d c) (all_finite alone) (sym h)).0)
   same_left false h =
       ap (λ (n : ℕ). overwrite at (zeros n) old)
-      (length-drawn d c shape ∙ sym (length-vertices (twistTaken d c) d c shape))
+      (length-drawn d c shape ∙ sym (length-vertices (twist_taken d c) d c shape))
 
   pub scan-leaves : (finite : Bool) → finite ≡ fine
       → left finite (part at size (overwrite at list old)) (overwrite at list old) ≡ left finite alone old

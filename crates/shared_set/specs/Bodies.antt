@@ -2,11 +2,11 @@
 -- and vertices'). Definitions only.
 use Rattle.std.specs.Prelude.{List, ℕ, Float, length}
 use Rattle.surface.specs.Triangles.{Triangle}
-use Rattle.kinds.specs.Kinds.{trianglesOf}
-use Rattle.curve.specs.Segments.{verticesIn}
-use Rattle.descriptions.specs.Descriptions.{topologyOf}
-use Rattle.descriptions.specs.KindNumbers.{kindNumber, divisionsOf}
-use Rattle.bodies.specs.Bodies.{verticesOf}
+use Rattle.kinds.specs.Kinds.{triangles_of}
+use Rattle.curve.specs.Segments.{vertices_in}
+use Rattle.descriptions.specs.Descriptions.{topology_of}
+use Rattle.descriptions.specs.KindNumbers.{kind_number, divisions_of}
+use Rattle.bodies.specs.Bodies.{vertices_of}
 use Rattle.set_table.specs.declared.totals.Totals.{Totals}
 use Rattle.set_table.specs.declared.entries.Entry.{Entry}
 use Rattle.shared_set.specs.Additions.{Addition}
@@ -18,25 +18,25 @@ pub record Body : Type 0 where
   pub vertices : List Float
   pub triangles : List Triangle
 
-abbrev pub vertexCountIn : Body → ℕ
-vertexCountIn b = verticesIn b.vertices
+abbrev pub vertex_count_in : Body → ℕ
+vertex_count_in b = vertices_in b.vertices
 
-abbrev pub triangleCountIn : Body → ℕ
-triangleCountIn b = length b.triangles
+abbrev pub triangle_count_in : Body → ℕ
+triangle_count_in b = length b.triangles
 
 -- "A body alone is the vertices and local triangles that this paper's definitions give its
 -- description and curve", and of kind 6 its k, "with its kind and n".
-abbrev pub bodyAlone : Addition → Body
-bodyAlone a = record {
-  kind = kindNumber a.description;
-  divisions = divisionsOf a.description;
-  vertices = verticesOf a.twist a.description a.curve;
-  triangles = trianglesOf (topologyOf a.description (verticesIn a.curve));
+abbrev pub body_alone : Addition → Body
+body_alone a = record {
+  kind = kind_number a.description;
+  divisions = divisions_of a.description;
+  vertices = vertices_of a.twist a.description a.curve;
+  triangles = triangles_of (topology_of a.description (vertices_in a.curve));
 }
 
 -- the entry of a body of this kind, n and counts that follows bodies of these totals
-abbrev pub entryWith : Totals → ℕ → ℕ → ℕ → ℕ → Entry
-entryWith t kind n vertices triangles = record {
+abbrev pub entry_with : Totals → ℕ → ℕ → ℕ → ℕ → Entry
+entry_with t kind n vertices triangles = record {
   kind = kind;
   divisions = n;
   vertex = t.vertices;
@@ -46,4 +46,4 @@ entryWith t kind n vertices triangles = record {
 }
 
 abbrev pub entry_of : Totals → Body → Entry
-entry_of t b = entryWith t b.kind b.divisions (vertexCountIn b) (triangleCountIn b)
+entry_of t b = entry_with t b.kind b.divisions (vertex_count_in b) (triangle_count_in b)

@@ -1,13 +1,13 @@
 ghost use Rattle.std.specs.Prelude.{◌≡◌, cond, ◌++◌, ◌/◌, ◌≤◌, length};
-ghost use Rattle.kinds.specs.Kinds.{vertexCount, triangleCount};
-ghost use Rattle.answers.specs.Answers.{number_of, outcomeAnswer, first_of};
-ghost use Rattle.descriptions.specs.Descriptions.{topologyOf};
-ghost use Rattle.descriptions.specs.Refusals.{ShapePermitted, foldTests, curveFoldsPermitted};
-ghost use Rattle.set_table.specs.Room.{mostBodies, Fits};
-ghost use Rattle.set_table.specs.Buffers.{buffers, lengthsOf};
-ghost use Rattle.shared_set.specs.Bodies.{bodyAlone};
-ghost use Rattle.shared_set.specs.Additions.{taken, finiteTests};
-ghost use Rattle.shared_set.specs.Set.{after, afterAnswer, appended, added};
+ghost use Rattle.kinds.specs.Kinds.{vertex_count, triangle_count};
+ghost use Rattle.answers.specs.Answers.{number_of, outcome_answer, first_of};
+ghost use Rattle.descriptions.specs.Descriptions.{topology_of};
+ghost use Rattle.descriptions.specs.Refusals.{ShapePermitted, fold_tests, curve_folds_permitted};
+ghost use Rattle.set_table.specs.Room.{most_bodies, Fits};
+ghost use Rattle.set_table.specs.Buffers.{buffers, lengths_of};
+ghost use Rattle.shared_set.specs.Bodies.{body_alone};
+ghost use Rattle.shared_set.specs.Additions.{taken, finite_tests};
+ghost use Rattle.shared_set.specs.Set.{after, after_answer, appended, added};
 
 use crate::drawing::draw;
 use crate::placing::place;
@@ -29,14 +29,14 @@ fn append_fitting(
     triangles: &mut [u32],
 ) -> Outcome
     requires shape_permitted { ShapePermitted description (length curve.now / 3) }
-    requires body_described { body ≡ topologyOf description (length curve.now / 3) }
-    requires room { let lent = lengthsOf (buffers table.old vertices.old triangles.old) in
-        Fits lent totals (vertexCount body) (triangleCount body) }
+    requires body_described { body ≡ topology_of description (length curve.now / 3) }
+    requires room { let lent = lengths_of (buffers table.old vertices.old triangles.old) in
+        Fits lent totals (vertex_count body) (triangle_count body) }
     ensures { let c = curve.now in
-        after (outcomeAnswer result) table.new vertices.new triangles.new
-        ≡ afterAnswer totals (bodyAlone (taken description c))
+        after (outcome_answer result) table.new vertices.new triangles.new
+        ≡ after_answer totals (body_alone (taken description c))
         (buffers table.old vertices.old triangles.old)
-        (first_of (foldTests description c ++ finiteTests (taken description c)) tt) }
+        (first_of (fold_tests description c ++ finite_tests (taken description c)) tt) }
 {
     match draw(totals, body, description, curve, vertices) {
         Outcome::Refused(why) => Outcome::Refused(why),
@@ -50,7 +50,7 @@ fn append_fitting(
 // Why a body that has no room is refused: a fold (13) comes before a lack of room, `why`.
 fn fold_or(why: Refusal, description: Description, curve: &[f32]) -> Refusal
     requires { ShapePermitted description (length curve.now / 3) }
-    ensures { number_of result ≡ cond (curveFoldsPermitted description curve.now) (number_of why) 13 }
+    ensures { number_of result ≡ cond (curve_folds_permitted description curve.now) (number_of why) 13 }
 {
     if bodies::is_without_fold(description, curve) {
         return why;
@@ -68,8 +68,8 @@ fn append(
     vertices: &mut [f32],
     triangles: &mut [u32],
 ) -> Outcome
-    requires { totals.bodies ≤ mostBodies }
-    ensures { after (outcomeAnswer result) table.new vertices.new triangles.new
+    requires { totals.bodies ≤ most_bodies }
+    ensures { after (outcome_answer result) table.new vertices.new triangles.new
         ≡ appended (taken description curve.now) totals
         (buffers table.old vertices.old triangles.old) }
 {
@@ -101,7 +101,7 @@ pub fn add(
     vertices: &mut [f32],
     triangles: &mut [u32],
 ) -> Outcome
-    ensures { after (outcomeAnswer result) table.new vertices.new triangles.new
+    ensures { after (outcome_answer result) table.new vertices.new triangles.new
         ≡ added (taken description curve.now)
         (buffers table.old vertices.old triangles.old) }
 {

@@ -1,16 +1,16 @@
 ghost use Rattle.std.specs.Prelude.{◌≡◌, cond, ◌++◌, ◌+◌, ◌*◌, ◌/◌, ◌≤◌, length};
 ghost use Rattle.laws.specs.Parts.{part};
 ghost use Rattle.laws.specs.Overwrite.{overwrite};
-ghost use Rattle.float32.specs.Scan.{allFinite};
+ghost use Rattle.float32.specs.Scan.{all_finite};
 ghost use Rattle.float32.specs.Zeros.{zeros};
-ghost use Rattle.surface.specs.Limits.{mostInAll};
-ghost use Rattle.kinds.specs.Kinds.{vertexCount};
-ghost use Rattle.answers.specs.Answers.{outcomeAnswer, first_of};
-ghost use Rattle.descriptions.specs.Descriptions.{topologyOf};
-ghost use Rattle.descriptions.specs.Refusals.{ShapePermitted, foldTests};
-ghost use Rattle.shared_set.specs.Bodies.{bodyAlone};
-ghost use Rattle.shared_set.specs.Additions.{taken, finiteTests};
-ghost use Rattle.shared_set.specs.Set.{verticesAfter};
+ghost use Rattle.surface.specs.Limits.{most_in_all};
+ghost use Rattle.kinds.specs.Kinds.{vertex_count};
+ghost use Rattle.answers.specs.Answers.{outcome_answer, first_of};
+ghost use Rattle.descriptions.specs.Descriptions.{topology_of};
+ghost use Rattle.descriptions.specs.Refusals.{ShapePermitted, fold_tests};
+ghost use Rattle.shared_set.specs.Bodies.{body_alone};
+ghost use Rattle.shared_set.specs.Additions.{taken, finite_tests};
+ghost use Rattle.shared_set.specs.Set.{vertices_after};
 
 use answers::{Outcome, Refusal};
 use descriptions::Description;
@@ -20,10 +20,10 @@ use set_table::Totals;
 // Answers whether all floats of a body's vertices are finite. If one is not (23), it sets the
 // body's whole stretch of the buffer to +0.
 fn zero_unless_finite(first: usize, body: Topology, vertices: &mut [f32]) -> bool
-    requires few_vertices { first + vertexCount body ≤ mostInAll }
-    requires vertices_room { 3 * (first + vertexCount body) ≤ length vertices.old }
-    ensures answer { result ≡ allFinite (part (3 * first) (3 * vertexCount body) vertices.old) }
-    ensures vertices_after { let drawn = part (3 * first) (3 * vertexCount body) vertices.old in
+    requires few_vertices { first + vertex_count body ≤ most_in_all }
+    requires vertices_room { 3 * (first + vertex_count body) ≤ length vertices.old }
+    ensures answer { result ≡ all_finite (part (3 * first) (3 * vertex_count body) vertices.old) }
+    ensures vertices_after { let drawn = part (3 * first) (3 * vertex_count body) vertices.old in
         vertices.new ≡ overwrite (3 * first) (cond result drawn (zeros (length drawn))) vertices.old }
 {
     let at = 3 * first;
@@ -46,13 +46,13 @@ pub(crate) fn draw(
     vertices: &mut [f32],
 ) -> Outcome
     requires shape_permitted { ShapePermitted description (length curve.now / 3) }
-    requires body_described { body ≡ topologyOf description (length curve.now / 3) }
-    requires few_vertices { totals.vertices + vertexCount body ≤ mostInAll }
-    requires vertices_room { 3 * (totals.vertices + vertexCount body) ≤ length vertices.old }
+    requires body_described { body ≡ topology_of description (length curve.now / 3) }
+    requires few_vertices { totals.vertices + vertex_count body ≤ most_in_all }
+    requires vertices_room { 3 * (totals.vertices + vertex_count body) ≤ length vertices.old }
     ensures answer { let c = curve.now in
-        outcomeAnswer result ≡ first_of (foldTests description c ++ finiteTests (taken description c)) tt }
+        outcome_answer result ≡ first_of (fold_tests description c ++ finite_tests (taken description c)) tt }
     ensures vertices_after { vertices.new
-        ≡ verticesAfter (outcomeAnswer result) totals (bodyAlone (taken description curve.now))
+        ≡ vertices_after (outcome_answer result) totals (body_alone (taken description curve.now))
         vertices.old }
 {
     let at = 3 * totals.vertices;

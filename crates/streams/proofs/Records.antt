@@ -7,7 +7,7 @@ use Rattle.std.proofs.Math.ListN.{get_or-append}
 use Rattle.laws.specs.Overwrite.{placed}
 use Rattle.laws.specs.Lent.{part-written}
 use Rattle.little_endian.specs.Words.{words_in}
-use Rattle.records.specs.Records.{headWords, mostVertices, verticesNamed, headNames, lengthNamed, recordWords}
+use Rattle.records.specs.Records.{head_words, most_vertices, vertices_named, head_names, length_named, record_words}
 use Rattle.records.proofs.Lengths.{all_there, too_few, named-bounds}
 use Rattle.std.specs.declared.option.Option.{Option}
 use Rattle.std.specs.declared.option.Option.TheVariants.{None, Some}
@@ -28,49 +28,49 @@ read_back count bytes words₀ sized room is written =
 
 -- what a head names, whatever follows it
 module _ (head more : List ℕ) (has : 7 ≤ length head) where
-  pub same_vertices : verticesNamed (head ++ more) ≡ verticesNamed head
+  pub same_vertices : vertices_named (head ++ more) ≡ vertices_named head
   same_vertices = get_or-append head more 0 6 has
 
-  pub same_named : lengthNamed (head ++ more) ≡ lengthNamed head
-  unfolding headNames
+  pub same_named : length_named (head ++ more) ≡ length_named head
+  unfolding head_names
   same_named =
       let all = head ++ more in
       let long : 7 ≤ length all = omega (arith, length-append head more) in
       λ j. cond ((le-leb 7 (length all) long ∙ sym (le-leb 7 (length head) has)) j && leb (same_vertices j) 512) (7 + 3 * same_vertices j) 0
 
 -- a head that names no length names too many vertices
-pub too_many : (words : List ℕ) → 7 ≤ length words → lengthNamed words ≡ 0 → NamesTooMany words
-unfolding headNames
-too_many words has none = (has, by (leb (verticesNamed words) 512) refl) where
-  by : (b : Bool) → leb (verticesNamed words) 512 ≡ b → 512 < verticesNamed words
+pub too_many : (words : List ℕ) → 7 ≤ length words → length_named words ≡ 0 → NamesTooMany words
+unfolding head_names
+too_many words has none = (has, by (leb (vertices_named words) 512) refl) where
+  by : (b : Bool) → leb (vertices_named words) 512 ≡ b → 512 < vertices_named words
   by true e =
-      let named : lengthNamed words ≡ 7 + 3 * verticesNamed words = λ j. cond (le-leb 7 (length words) has j && e j) (7 + 3 * verticesNamed words) 0 in
+      let named : length_named words ≡ 7 + 3 * vertices_named words = λ j. cond (le-leb 7 (length words) has j && e j) (7 + 3 * vertices_named words) 0 in
       absurd (omega (arith, named, none))
-  by false e = leb-false (verticesNamed words) 512 e
+  by false e = leb-false (vertices_named words) 512 e
 
 -- one that names a length does not
-pub few_enough : (words : List ℕ) → 7 ≤ length words → (lengthNamed words ≡ 0 → ⊥) → verticesNamed words ≤ 512
-unfolding headNames
-few_enough words has some = by (leb (verticesNamed words) 512) refl where
-  by : (b : Bool) → leb (verticesNamed words) 512 ≡ b → verticesNamed words ≤ 512
-  by true e = leb-true (verticesNamed words) 512 e
-  by false e = absurd (some (λ j. cond (le-leb 7 (length words) has j && e j) (7 + 3 * verticesNamed words) 0))
+pub few_enough : (words : List ℕ) → 7 ≤ length words → (length_named words ≡ 0 → ⊥) → vertices_named words ≤ 512
+unfolding head_names
+few_enough words has some = by (leb (vertices_named words) 512) refl where
+  by : (b : Bool) → leb (vertices_named words) 512 ≡ b → vertices_named words ≤ 512
+  by true e = leb-true (vertices_named words) 512 e
+  by false e = absurd (some (λ j. cond (le-leb 7 (length words) has j && e j) (7 + 3 * vertices_named words) 0))
 
 -- 28 bytes that are the head of a record of `count` words, and the bytes behind them
-module _ (count : ℕ) (head more : List ℕ) (sized : length head ≡ 28) (named : count ≡ lengthNamed (words_in head)) (has : 7 ≤ count) where
+module _ (count : ℕ) (head more : List ℕ) (sized : length head ≡ 28) (named : count ≡ length_named (words_in head)) (has : 7 ≤ count) where
   split : words_in (head ++ more) ≡ words_in head ++ words_in more
   split = words-append 7 head more sized
 
   seven : length (words_in head) ≡ 7
   seven = omega (arith, length-words head)
 
-  named-still : count ≡ lengthNamed (words_in (head ++ more))
-  named-still = named ∙ sym (ap lengthNamed split ∙ same_named (words_in head) (words_in more) (omega (arith, seven)))
+  named-still : count ≡ length_named (words_in (head ++ more))
+  named-still = named ∙ sym (ap length_named split ∙ same_named (words_in head) (words_in more) (omega (arith, seven)))
 
   long : length (words_in (head ++ more)) ≡ (28 + length more) / 4
   long = omega (arith, length-words (head ++ more), length-append head more)
 
-  pub is_whole : length more ≡ 4 * count - 28 → count ≡ recordWords (words_in (head ++ more))
+  pub is_whole : length more ≡ 4 * count - 28 → count ≡ record_words (words_in (head ++ more))
   is_whole fits = all_there (words_in (head ++ more)) named-still (omega (arith, long, fits))
 
   pub is-cut-short : length more < 4 * count - 28 → IsCutShort (words_in (head ++ more))
@@ -81,15 +81,15 @@ module _ (count : ℕ) (head more : List ℕ) (sized : length head ≡ 28) (name
 
 -- fewer bytes than a head has
 pub no_head : (bytes : List ℕ) → length bytes < 28 → IsCutShort (words_in bytes)
-unfolding headNames
+unfolding head_names
 no_head bytes few =
     let words = words_in bytes in
     let short : length words < 7 = omega (arith, length-words bytes, few) in
-    let none : lengthNamed words ≡ 0 = λ j. cond (lt-leb 7 (length words) short j && leb (verticesNamed words) 512) (7 + 3 * verticesNamed words) 0 in
+    let none : length_named words ≡ 0 = λ j. cond (lt-leb 7 (length words) short j && leb (vertices_named words) 512) (7 + 3 * vertices_named words) 0 in
     (sym (all_there words (sym none) (omega arith)), λ has. absurd (omega (arith, has, short)))
 
 -- a head that names too many vertices, whatever follows it
-pub still_too_many : (head more : List ℕ) → length head ≡ 28 → lengthNamed (words_in head) ≡ 0 → NamesTooMany (words_in (head ++ more))
+pub still_too_many : (head more : List ℕ) → length head ≡ 28 → length_named (words_in head) ≡ 0 → NamesTooMany (words_in (head ++ more))
 still_too_many head more sized none =
     let seven : 7 ≤ length (words_in head) = omega (arith, length-words head) in
     let split = words-append 7 head more sized in

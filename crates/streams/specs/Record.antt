@@ -4,7 +4,7 @@ use Rattle.std.specs.Prelude.{◌≡◌, List, [], ℕ, ◌*◌, ◌≤◌, ◌<
 use Rattle.std.specs.declared.option.Option.{Option}
 use Rattle.std.specs.Io.KnownBytes.{Consumes}
 use Rattle.little_endian.specs.Words.{words_in}
-use Rattle.records.specs.Records.{headWords, mostVertices, verticesNamed, recordWords}
+use Rattle.records.specs.Records.{head_words, most_vertices, vertices_named, record_words}
 use Rattle.streams.specs.declared.record.Next.{Next}
 use Rattle.streams.specs.declared.record.Next.TheVariants.{Record, Stop as StopsFor}
 use Rattle.streams.specs.declared.record.Stop.{Stop}
@@ -12,16 +12,16 @@ use Rattle.streams.specs.declared.record.Stop.TheVariants.{End, Short, TooLong, 
 
 -- a record of `count` words is at their front, whole and alone
 abbrev pub ReadAs : Next → List ℕ → Type 0
-ReadAs (Record count) words = (0 < count) × (count ≤ length words) × (count ≡ recordWords (take count words))
+ReadAs (Record count) words = (0 < count) × (count ≤ length words) × (count ≡ record_words (take count words))
 ReadAs (StopsFor why) words = Unit
 
 -- "a curve count over 512"
 abbrev pub NamesTooMany : List ℕ → Type 0
-NamesTooMany words = (headWords ≤ length words) × (mostVertices < verticesNamed words)
+NamesTooMany words = (head_words ≤ length words) × (most_vertices < vertices_named words)
 
 -- "a short record"
 abbrev pub IsCutShort : List ℕ → Type 0
-IsCutShort words = (recordWords words ≡ 0) × (headWords ≤ length words → verticesNamed words ≤ mostVertices)
+IsCutShort words = (record_words words ≡ 0) × (head_words ≤ length words → vertices_named words ≤ most_vertices)
 
 -- why the reading stops before these bytes, which are all that is left of an input
 abbrev pub StopsBefore : Stop → List ℕ → Type 0

@@ -1,7 +1,7 @@
 ghost use Rattle.std.specs.Prelude.{◌≡◌, ◌≤◌, length, take};
 ghost use Rattle.std.specs.Io.KnownBytes.{prepend_known};
 ghost use Rattle.little_endian.specs.Words.{words_in};
-ghost use Rattle.records.specs.Records.{lengthNamed};
+ghost use Rattle.records.specs.Records.{length_named};
 ghost use Rattle.streams.specs.Record.{ReadAs, ReadFrom};
 
 use crate::{Filled, read_full};
@@ -41,7 +41,7 @@ pub enum Next {
 fn read_curve<R: Read>(input: &mut R, count: usize, bytes: &mut [u8], words: &mut [u32]) -> Next
     requires has_head { 7 ≤ count }
     requires fits { count ≤ 1543 }
-    requires named { count ≡ lengthNamed (words_in (take 28 bytes.old)) }
+    requires named { count ≡ length_named (words_in (take 28 bytes.old)) }
     requires byte_room { 6172 ≡ length bytes.old }
     requires word_room { 1543 ≡ length words.old }
     ensures alone { ReadAs result words.new }

@@ -8,15 +8,15 @@ use native.Mathlib.Omega.{arith}
 use lib.ListN.{length, get_or}
 use Rattle.laws.specs.Blocks.{blocks}
 use Rattle.surface.specs.Triangles.{flatten}
-use Rattle.surface.specs.Quads.{quadOf}
-use Rattle.surface.specs.Grid.{after_of, points_of, rowTriangles}
+use Rattle.surface.specs.Quads.{quad_of}
+use Rattle.surface.specs.Grid.{after_of, points_of, row_triangles}
 use Rattle.surface.specs.Raise.{Below}
 use Rattle.surface.specs.declared.quads.Split.{Split}
 use Rattle.surface.specs.declared.quads.Split.TheVariants.{Capped, Torus, Tube, Ribbon}
 use Rattle.surface.specs.declared.grid.Chain.{Chain}
 use Rattle.surface.proofs.Chains.{after-lt, points-bounds}
 use Rattle.surface.proofs.Flatten.{numbers, flatten-blocks}
-use Rattle.surface.proofs.Pieces.{quadAt}
+use Rattle.surface.proofs.Pieces.{quad_at}
 
 pub below_at : (bound : ℕ) (l : List ℕ) (k : ℕ) → Below bound l → k < length l → get_or l k 0 < bound
 below_at bound [] k b h = absurd (not-suc-le-zero h)
@@ -31,16 +31,16 @@ pub below-blocks : (bound n : ℕ) (f : ℕ → List ℕ) → ((k : ℕ) → k <
 below-blocks bound zero f h = tt
 below-blocks bound (suc n) f h = below-append bound (blocks n f) (f n) (below-blocks bound n f (λ k l. h k (omega arith))) (h n (omega arith))
 
-below-quad : (split : Split) (m a b d e : ℕ) → a < m → b < m → d < m → e < m → Below m (flatten (quadOf split a b d e))
+below-quad : (split : Split) (m a b d e : ℕ) → a < m → b < m → d < m → e < m → Below m (flatten (quad_of split a b d e))
 below-quad Capped m a b d e la lb ld le = (le, (lb, (la, (ld, (le, (la, tt))))))
 below-quad Torus m a b d e la lb ld le = (la, (lb, (ld, (le, (ld, (lb, tt))))))
 below-quad Tube m a b d e la lb ld le = (la, (le, (lb, (la, (ld, (le, tt))))))
 below-quad Ribbon m a b d e la lb ld le = (la, (lb, (ld, (lb, (le, (ld, tt))))))
 
-pub below_row : (split : Split) (round : Chain) (n m low high : ℕ) → low + points_of round n ≤ m → high + points_of round n ≤ m → Below m (flatten (rowTriangles split round n low high))
+pub below_row : (split : Split) (round : Chain) (n m low high : ℕ) → low + points_of round n ≤ m → high + points_of round n ≤ m → Below m (flatten (row_triangles split round n low high))
 below_row split round n m low high l h =
-    subst (λ (r : List ℕ). Below m r) (sym (flatten-blocks n (quadAt split round n low high)))
-    (below-blocks m n (numbers (quadAt split round n low high)) (λ i less.
+    subst (λ (r : List ℕ). Below m r) (sym (flatten-blocks n (quad_at split round n low high)))
+    (below-blocks m n (numbers (quad_at split round n low high)) (λ i less.
     let j = after_of round n i in
     let here = points-bounds round n in
     let next = after-lt round n i less in

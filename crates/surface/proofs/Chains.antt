@@ -3,7 +3,7 @@ use mathlib.Core.Path.{◌≡◌, refl, sym, ap, ◌∙◌}
 use Prim.Native.Nat.{ℕ, ◌+◌, ◌-◌, ◌%◌, ◌≤◌, ◌<◌}
 use native.Mathlib.Nat.{mod-lt, mod-eq_of_lt, mod_self}
 use native.Mathlib.Omega.{arith}
-use Rattle.surface.specs.Grid.{after_of, points_of, straightOf}
+use Rattle.surface.specs.Grid.{after_of, points_of, straight_of}
 use Rattle.surface.specs.declared.grid.Chain.{Chain}
 use Rattle.surface.specs.declared.grid.Chain.TheVariants.{Open, Closed}
 
@@ -19,16 +19,16 @@ points-bounds Closed n = (omega arith, omega arith)
 
 -- steps to the next number are no more than all steps; and where there is a step, there is a point
 -- more than steps to the next number
-pub straight-bounds : (chain : Chain) (n : ℕ) → (straightOf chain n ≤ n) × (0 < n → straightOf chain n + 1 ≤ points_of chain n)
+pub straight-bounds : (chain : Chain) (n : ℕ) → (straight_of chain n ≤ n) × (0 < n → straight_of chain n + 1 ≤ points_of chain n)
 straight-bounds Open n = (omega arith, λ h. omega arith)
 straight-bounds Closed n = (omega arith, λ h. omega arith)
 
-pub straight-after : (chain : Chain) (n i : ℕ) → i < straightOf chain n → i + 1 ≡ after_of chain n i
+pub straight-after : (chain : Chain) (n i : ℕ) → i < straight_of chain n → i + 1 ≡ after_of chain n i
 straight-after Open n i h = refl
 straight-after Closed n i h = sym (mod-eq_of_lt (omega arith))
 
 -- a step that is left over is the last one, and leads to the first point
-pub last-after : (chain : Chain) (n : ℕ) → straightOf chain n < n → (straightOf chain n + 1 ≡ n) × (0 ≡ after_of chain n (straightOf chain n))
+pub last-after : (chain : Chain) (n : ℕ) → straight_of chain n < n → (straight_of chain n + 1 ≡ n) × (0 ≡ after_of chain n (straight_of chain n))
 last-after Open n h = absurd (omega arith)
 last-after Closed n h =
     let last : n - 1 + 1 ≡ n = omega arith in

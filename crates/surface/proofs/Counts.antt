@@ -4,7 +4,7 @@ use mathlib.Core.Bool.{Bool, true, false, cond}
 use Prim.Native.Nat.{ℕ, ◌+◌, ◌^◌, ◌≤◌, ◌<◌}
 use native.Mathlib.Nat.{mul-le-mul}
 use native.Mathlib.Omega.{arith}
-use Rattle.surface.specs.Whole.{chainOf, isCapped, ringCount, ringSize, gridSize, surfaceVertexCount}
+use Rattle.surface.specs.Whole.{chain_of, is_capped, ring_count, ring_size, grid_size, surface_vertex_count}
 use Rattle.surface.specs.declared.whole.Surface.{Surface}
 use Rattle.surface.proofs.Chains.{points-bounds}
 
@@ -13,14 +13,14 @@ cond-le true n = omega arith
 cond-le false n = omega arith
 
 module _ (s : Surface) (rows< : s.rows < 2 ^ 16) (columns< : s.columns < 2 ^ 16) where
-  pub few-points : gridSize s ≤ 2 ^ 32
+  pub few-points : grid_size s ≤ 2 ^ 32
   few-points =
-      let along = points-bounds (chainOf s.ending) s.rows in
+      let along = points-bounds (chain_of s.ending) s.rows in
       let round = points-bounds s.round s.columns in
-      let few-rings : ringCount s ≤ 2 ^ 16 = omega arith in
-      let small-rings : ringSize s ≤ 2 ^ 16 = omega arith in
+      let few-rings : ring_count s ≤ 2 ^ 16 = omega arith in
+      let small-rings : ring_size s ≤ 2 ^ 16 = omega arith in
       mul-le-mul few-rings small-rings
 
-  pub few-vertices : surfaceVertexCount s ≤ 2 ^ 32 + 2
-  unfolding surfaceVertexCount
-  few-vertices = omega (arith, few-points, cond-le (isCapped s.ending) 2)
+  pub few-vertices : surface_vertex_count s ≤ 2 ^ 32 + 2
+  unfolding surface_vertex_count
+  few-vertices = omega (arith, few-points, cond-le (is_capped s.ending) 2)

@@ -11,8 +11,8 @@ use Rattle.laws.specs.Blocks.{blocks, blocks-cong, map-blocks}
 use Rattle.laws.specs.Lent.{part-written}
 use Rattle.laws.specs.Parts.{part}
 use Rattle.surface.specs.Triangles.{flatten}
-use Rattle.surface.specs.Quads.{quadOf}
-use Rattle.surface.specs.Grid.{after_of, points_of, rowTriangles, gridTriangles}
+use Rattle.surface.specs.Quads.{quad_of}
+use Rattle.surface.specs.Grid.{after_of, points_of, row_triangles, grid_triangles}
 use Rattle.surface.specs.Raise.{raised, copy_of, Below}
 use Rattle.surface.specs.declared.quads.Split.{Split}
 use Rattle.surface.specs.declared.quads.Split.TheVariants.{Capped, Torus, Tube, Ribbon}
@@ -20,61 +20,61 @@ use Rattle.surface.specs.declared.grid.Chain.{Chain}
 use Rattle.surface.specs.declared.grid.Chain.TheVariants.{Open}
 use Rattle.surface.proofs.Below.{below_row}
 use Rattle.surface.proofs.Flatten.{numbers, flatten-blocks}
-use Rattle.surface.proofs.Pieces.{quadAt, row_at, length-row, length-grid}
+use Rattle.surface.proofs.Pieces.{quad_at, row_at, length-row, length-grid}
 
-raised-quad : (split : Split) (r a b d e : ℕ) → raised r (flatten (quadOf split a b d e)) ≡ flatten (quadOf split (r + a) (r + b) (r + d) (r + e))
+raised-quad : (split : Split) (r a b d e : ℕ) → raised r (flatten (quad_of split a b d e)) ≡ flatten (quad_of split (r + a) (r + b) (r + d) (r + e))
 raised-quad Capped r a b d e = refl
 raised-quad Torus r a b d e = refl
 raised-quad Tube r a b d e = refl
 raised-quad Ribbon r a b d e = refl
 
 module _ (split : Split) (round : Chain) (n : ℕ) where
-  raised-row : (r low high : ℕ) → raised r (flatten (rowTriangles split round n low high)) ≡ flatten (rowTriangles split round n (r + low) (r + high))
+  raised-row : (r low high : ℕ) → raised r (flatten (row_triangles split round n low high)) ≡ flatten (row_triangles split round n (r + low) (r + high))
   raised-row r low high =
-      ap (λ (l : List ℕ). raised r l) (flatten-blocks n (quadAt split round n low high))
-      ∙ map-blocks (λ k. r + k) n (numbers (quadAt split round n low high))
-      ∙ blocks-cong n (λ i. raised r (numbers (quadAt split round n low high) i)) (numbers (quadAt split round n (r + low) (r + high))) (λ i _.
+      ap (λ (l : List ℕ). raised r l) (flatten-blocks n (quad_at split round n low high))
+      ∙ map-blocks (λ k. r + k) n (numbers (quad_at split round n low high))
+      ∙ blocks-cong n (λ i. raised r (numbers (quad_at split round n low high) i)) (numbers (quad_at split round n (r + low) (r + high))) (λ i _.
       let j = after_of round n i in
       let a : r + (low + i) ≡ r + low + i = omega arith in
       let b : r + (low + j) ≡ r + low + j = omega arith in
       let d : r + (high + i) ≡ r + high + i = omega arith in
       let e : r + (high + j) ≡ r + high + j = omega arith in
-      raised-quad split r (low + i) (low + j) (high + i) (high + j) ∙ (λ k. flatten (quadOf split (a k) (b k) (d k) (e k))))
-      ∙ sym (flatten-blocks n (quadAt split round n (r + low) (r + high)))
+      raised-quad split r (low + i) (low + j) (high + i) (high + j) ∙ (λ k. flatten (quad_of split (a k) (b k) (d k) (e k))))
+      ∙ sym (flatten-blocks n (quad_at split round n (r + low) (r + high)))
 
-  abbrev pub firstRow : ℕ → List ℕ
-  firstRow base = flatten (rowTriangles split round n base (base + points_of round n))
+  abbrev pub first_row : ℕ → List ℕ
+  first_row base = flatten (row_triangles split round n base (base + points_of round n))
 
-  copied-row : (m base g : ℕ) → copy_of (points_of round n) (firstRow base) g ≡ numbers (row_at split round n Open m base) g
+  copied-row : (m base g : ℕ) → copy_of (points_of round n) (first_row base) g ≡ numbers (row_at split round n Open m base) g
   copied-row m base g =
       let w = points_of round n in
       let low : g * w + base ≡ base + g * w = omega arith in
       let high : g * w + (base + w) ≡ base + (g + 1) * w = omega arith in
-      raised-row (g * w) base (base + w) ∙ (λ k. flatten (rowTriangles split round n (low k) (high k)))
+      raised-row (g * w) base (base + w) ∙ (λ k. flatten (row_triangles split round n (low k) (high k)))
 
-  pub below_copy : (m base g bound : ℕ) → g < m → base + (m + 1) * points_of round n ≤ bound → Below bound (copy_of (points_of round n) (firstRow base) g)
+  pub below_copy : (m base g bound : ℕ) → g < m → base + (m + 1) * points_of round n ≤ bound → Below bound (copy_of (points_of round n) (first_row base) g)
   below_copy m base g bound less h =
       let w = points_of round n in
       let within = mul-le-mul_right w less in
       subst (λ (r : List ℕ). Below bound r) (sym (copied-row m base g)) (below_row split round n bound (base + g * w) (base + (g + 1) * w) (omega arith) (omega arith))
 
   -- the first row, read back where it was written
-  pub first_read : (at base : ℕ) (t₀ : List ℕ) {t : List ℕ} → t ≡ overwrite at (firstRow base) t₀ → at + n * 6 ≤ length t₀ → part at (n * 6) t ≡ firstRow base
+  pub first_read : (at base : ℕ) (t₀ : List ℕ) {t : List ℕ} → t ≡ overwrite at (first_row base) t₀ → at + n * 6 ≤ length t₀ → part at (n * 6) t ≡ first_row base
   first_read at base t₀ written h =
       ap (λ (r : List ℕ). part at (n * 6) r) written
-      ∙ part-written at (n * 6) (firstRow base) t₀ (length-row split round n base (base + points_of round n)) h
+      ∙ part-written at (n * 6) (first_row base) t₀ (length-row split round n base (base + points_of round n)) h
 
   -- the first row and its copies are the rows
-  pub rows_written : (m at base : ℕ) (t₀ : List ℕ) {t t' : List ℕ} → 0 < m → t ≡ overwrite at (firstRow base) t₀
-      → t' ≡ overwrite at (blocks m (copy_of (points_of round n) (firstRow base))) t → t' ≡ overwrite at (flatten (gridTriangles split Open m round n base)) t₀
+  pub rows_written : (m at base : ℕ) (t₀ : List ℕ) {t t' : List ℕ} → 0 < m → t ≡ overwrite at (first_row base) t₀
+      → t' ≡ overwrite at (blocks m (copy_of (points_of round n) (first_row base))) t → t' ≡ overwrite at (flatten (grid_triangles split Open m round n base)) t₀
   rows_written m at base t₀ some first copies =
       let f = row_at split round n Open m base in
       let w = points_of round n in
       let all = flatten (blocks m f) in
-      let is : blocks m (copy_of w (firstRow base)) ≡ all =
-      blocks-cong m (copy_of w (firstRow base)) (numbers f) (λ g _. copied-row m base g) ∙ sym (flatten-blocks m f) in
+      let is : blocks m (copy_of w (first_row base)) ≡ all =
+      blocks-cong m (copy_of w (first_row base)) (numbers f) (λ g _. copied-row m base g) ∙ sym (flatten-blocks m f) in
       let one = length-row split round n base (base + w) in
       let sized = length-grid split round n Open m base in
       copies
       ∙ (λ k. overwrite at (is k) (first k))
-      ∙ overwrite-cover at (firstRow base) all t₀ (omega (arith, mul-le-mul_right (n * 6) some))
+      ∙ overwrite-cover at (first_row base) all t₀ (omega (arith, mul-le-mul_right (n * 6) some))

@@ -3,9 +3,9 @@
 -- ring g + 1, vertex i of ring g. Definitions only.
 use Rattle.std.specs.Prelude.{List, ℕ, ◌+◌, ◌-◌, ◌*◌, ◌%◌, ◌≤◌, ◌<◌}
 use Rattle.laws.specs.Blocks.{blocks}
-use Rattle.surface.specs.Limits.{mostInAll}
+use Rattle.surface.specs.Limits.{most_in_all}
 use Rattle.surface.specs.Triangles.{Triangle}
-use Rattle.surface.specs.Quads.{quadOf}
+use Rattle.surface.specs.Quads.{quad_of}
 use Rattle.surface.specs.declared.quads.Split.{Split}
 use Rattle.surface.specs.declared.grid.Chain.{Chain}
 use Rattle.surface.specs.declared.grid.Chain.TheVariants.{Open, Closed}
@@ -21,30 +21,30 @@ points_of Open n = n + 1
 points_of Closed n = n
 
 -- How many of n steps lead to the next number: all but a closed chain's last.
-abbrev pub straightOf : Chain → ℕ → ℕ
-straightOf Open n = n
-straightOf Closed n = n - 1
+abbrev pub straight_of : Chain → ℕ → ℕ
+straight_of Open n = n
+straight_of Closed n = n - 1
 
 -- A row of n quads between the rings whose first vertices are low and high.
-abbrev pub rowTriangles : Split → Chain → ℕ → ℕ → ℕ → List Triangle
-rowTriangles split round n low high =
-    blocks n (λ i. quadOf split (low + i) (low + after_of round n i) (high + i) (high + after_of round n i))
+abbrev pub row_triangles : Split → Chain → ℕ → ℕ → ℕ → List Triangle
+row_triangles split round n low high =
+    blocks n (λ i. quad_of split (low + i) (low + after_of round n i) (high + i) (high + after_of round n i))
 
 -- m rows of n quads; vertex i of ring g is base + g * w + i, where a ring has w vertices.
-abbrev pub gridTriangles : Split → Chain → ℕ → Chain → ℕ → ℕ → List Triangle
-gridTriangles split along m round n base =
+abbrev pub grid_triangles : Split → Chain → ℕ → Chain → ℕ → ℕ → List Triangle
+grid_triangles split along m round n base =
     let w = points_of round n in
-    blocks m (λ g. rowTriangles split round n (base + g * w) (base + after_of along m g * w))
+    blocks m (λ g. row_triangles split round n (base + g * w) (base + after_of along m g * w))
 
--- What a row's writer asks: its vertices are numbered below `mostInAll`, and its place lies within
+-- What a row's writer asks: its vertices are numbered below `most_in_all`, and its place lies within
 -- the buffer.
 pub record RowFits (round : Chain) (n low high at room : ℕ) : Type 0 where
-  pub low-numbers : low + points_of round n ≤ mostInAll
-  pub high-numbers : high + points_of round n ≤ mostInAll
+  pub low-numbers : low + points_of round n ≤ most_in_all
+  pub high-numbers : high + points_of round n ≤ most_in_all
   pub within : at + n * 6 ≤ room
 
 -- What the writer of m rows asks whose rings follow one another. Where there is no row, there need
 -- be no ring.
 pub record RowsFit (round : Chain) (m n base at room : ℕ) : Type 0 where
-  pub numbers : 0 < m → base + (m + 1) * points_of round n ≤ mostInAll
+  pub numbers : 0 < m → base + (m + 1) * points_of round n ≤ most_in_all
   pub within : at + m * n * 6 ≤ room

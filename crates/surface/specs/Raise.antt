@@ -1,7 +1,7 @@
 -- Numbers of a buffer copied within it, with the same number added to each. Definitions only.
 use Rattle.std.specs.Prelude.{List, [], ◌∷◌, map, ℕ, ◌+◌, ◌-◌, ◌*◌, ◌≤◌, ◌<◌, length}
 use Rattle.laws.specs.Parts.{part}
-use Rattle.surface.specs.Limits.{mostInAll}
+use Rattle.surface.specs.Limits.{most_in_all}
 
 abbrev pub raised : ℕ → List ℕ → List ℕ
 raised rise l = map (λ n. rise + n) l
@@ -16,15 +16,15 @@ Below bound [] = Unit {0}
 Below bound (n ∷ l) = (n < bound) × Below bound l
 
 -- What one copy asks: it is made of what lies before it, has room, and its numbers are below
--- `mostInAll`.
+-- `most_in_all`.
 pub record RaiseFits (at size rise : ℕ) (l : List ℕ) : Type 0 where
   pub before : size ≤ at
   pub within : at + size ≤ length l
-  pub numbers : Below mostInAll (raised rise (part (at - size) size l))
+  pub numbers : Below most_in_all (raised rise (part (at - size) size l))
 
 -- What `times` copies, each right after the last, ask.
 pub record RepeatFits (at size times rise : ℕ) (l : List ℕ) : Type 0 where
   pub some : 0 < times
   pub within : at + times * size ≤ length l
-  pub rises : times * rise ≤ mostInAll
-  pub numbers : (k : ℕ) → k < times → Below mostInAll (copy_of rise (part at size l) k)
+  pub rises : times * rise ≤ most_in_all
+  pub numbers : (k : ℕ) → k < times → Below most_in_all (copy_of rise (part at size l) k)

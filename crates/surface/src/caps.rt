@@ -1,7 +1,7 @@
 ghost use Rattle.std.specs.Prelude.{◌≡◌, [], ◌∷◌, length};
 ghost use Rattle.laws.specs.Overwrite.{overwrite};
 ghost use Rattle.surface.specs.Triangles.{flatten};
-ghost use Rattle.surface.specs.Caps.{capTriangle, capTriangles, CapFits};
+ghost use Rattle.surface.specs.Caps.{cap_triangle, cap_triangles, CapFits};
 
 use crate::grid::{Chain, after};
 use crate::quads::put_triangle;
@@ -15,7 +15,7 @@ pub enum End {
 
 // The triangle between a pole and two neighbours on the ring next to it.
 pub fn cap_triangle(end: End, pole: u32, here: u32, next: u32) -> [u32; 3]
-    ensures { result ≡ flatten (capTriangle end pole here next ∷ []) }
+    ensures { result ≡ flatten (cap_triangle end pole here next ∷ []) }
 {
     match end {
         End::Bottom => [pole, here, next],
@@ -27,7 +27,7 @@ pub fn cap_triangle(end: End, pole: u32, here: u32, next: u32) -> [u32; 3]
 // on.
 pub(crate) fn write_cap(out: &mut [u32], at: usize, end: End, n: u32, pole: u32, rim: u32)
     requires { CapFits n rim at (length out.old) }
-    ensures { out.new ≡ overwrite at (flatten (capTriangles end n pole rim)) out.old }
+    ensures { out.new ≡ overwrite at (flatten (cap_triangles end n pole rim)) out.old }
 {
     let mut place = at;
     let mut i: u32 = 0;

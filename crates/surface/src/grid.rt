@@ -1,9 +1,9 @@
 ghost use Rattle.std.specs.Prelude.{◌≡◌, ◌<◌, length};
 ghost use Rattle.laws.specs.Overwrite.{overwrite};
 ghost use Rattle.surface.specs.Triangles.{flatten};
-ghost use Rattle.surface.specs.Grid.{after_of, points_of, straightOf, RowFits, RowsFit};
-ghost use Rattle.surface.specs.Grid.{rowTriangles, gridTriangles};
-ghost use Rattle.surface.specs.Whole.{surfaceGrid, GridFits};
+ghost use Rattle.surface.specs.Grid.{after_of, points_of, straight_of, RowFits, RowsFit};
+ghost use Rattle.surface.specs.Grid.{row_triangles, grid_triangles};
+ghost use Rattle.surface.specs.Whole.{surface_grid, GridFits};
 ghost use Rattle.surface.specs.declared.grid.Chain.TheVariants.{Open};
 
 use crate::quads::{Split, put_quad, quad};
@@ -40,7 +40,7 @@ pub(crate) fn points(chain: Chain, n: u16) -> u32
 
 // How many of a chain's `n` steps lead to the next number: all but a closed chain's last.
 fn straight(chain: Chain, n: u32) -> u32
-    ensures { result ≡ straightOf chain n }
+    ensures { result ≡ straight_of chain n }
 {
     match chain {
         Chain::Open => n,
@@ -53,7 +53,7 @@ fn straight(chain: Chain, n: u32) -> u32
 fn write_row(out: &mut [u32], at: usize, split: Split, round: Chain, n: u32, low: u32, high: u32)
     requires { RowFits round n low high at (length out.old) }
     ensures { out.new
-        ≡ overwrite at (flatten (rowTriangles split round n low high)) out.old }
+        ≡ overwrite at (flatten (row_triangles split round n low high)) out.old }
 {
     let mut place = at;
     let mut i: u32 = 0;
@@ -70,7 +70,7 @@ fn write_row(out: &mut [u32], at: usize, split: Split, round: Chain, n: u32, low
 // quads; each other row is the one before it, with the size of a ring added to its numbers.
 fn write_rows(out: &mut [u32], at: usize, s: Surface, rows: u32, base: u32)
     requires { RowsFit s.round rows s.columns base at (length out.old) }
-    ensures { let grid = gridTriangles s.split Open rows s.round s.columns base in
+    ensures { let grid = grid_triangles s.split Open rows s.round s.columns base in
         out.new ≡ overwrite at (flatten grid) out.old }
 {
     if rows == 0 {
@@ -86,7 +86,7 @@ fn write_rows(out: &mut [u32], at: usize, s: Surface, rows: u32, base: u32)
 // Writes the grid of a surface from place `at` on; vertex 0 of its ring 0 is `base`.
 pub(crate) fn write_grid(out: &mut [u32], at: usize, s: Surface, base: u32)
     requires { GridFits s base at (length out.old) }
-    ensures { out.new ≡ overwrite at (flatten (surfaceGrid s base)) out.old }
+    ensures { out.new ≡ overwrite at (flatten (surface_grid s base)) out.old }
 {
     let split = s.split;
     let ending = s.ending;

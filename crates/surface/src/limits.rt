@@ -1,7 +1,7 @@
 ghost use Rattle.std.specs.Prelude.{◌≡◌};
 ghost use Rattle.surface.specs.Limits.{fits};
 
-// The most vertices, and the most triangles, that a set may have: `mostInAll` of
+// The most vertices, and the most triangles, that a set may have: `most_in_all` of
 // specs/Limits.antt.
 pub const MOST_IN_ALL: usize = 1 << 28;
 

@@ -1,7 +1,7 @@
 ghost use Rattle.std.specs.Prelude.{◌≡◌, ◌+◌, ◌≤◌, length};
 ghost use Rattle.laws.specs.Overwrite.{overwrite};
 ghost use Rattle.surface.specs.Triangles.{rows, row_of, rows_of};
-ghost use Rattle.surface.specs.Quads.{quadOf};
+ghost use Rattle.surface.specs.Quads.{quad_of};
 
 // How a quad is cut into its two triangles, named after the bodies whose lists have it. Capsule
 // and closed cylinder are the capped ones.
@@ -16,7 +16,7 @@ pub enum Split {
 // The two triangles of a quad with corners a = (g, i), b = (g, i + 1), d = (g + 1, i) and
 // e = (g + 1, i + 1).
 pub fn quad(split: Split, a: u32, b: u32, d: u32, e: u32) -> [[u32; 3]; 2]
-    ensures { result ≡ rows (quadOf split a b d e) }
+    ensures { result ≡ rows (quad_of split a b d e) }
 {
     match split {
         Split::Capped => [[e, b, a], [d, e, a]],

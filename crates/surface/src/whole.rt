@@ -1,9 +1,9 @@
 ghost use Rattle.std.specs.Prelude.{◌≡◌, true, ◌+◌, ◌*◌, ◌≤◌, length};
 ghost use Rattle.laws.specs.Overwrite.{overwrite, placed};
-ghost use Rattle.surface.specs.Limits.{mostInAll};
+ghost use Rattle.surface.specs.Limits.{most_in_all};
 ghost use Rattle.surface.specs.Triangles.{flatten};
-ghost use Rattle.surface.specs.Whole.{chainOf, isCapped, ringCount, ringSize, placeable};
-ghost use Rattle.surface.specs.Whole.{surfaceVertexCount, surfaceTriangleCount, surfaceTriangles};
+ghost use Rattle.surface.specs.Whole.{chain_of, is_capped, ring_count, ring_size, placeable};
+ghost use Rattle.surface.specs.Whole.{surface_vertex_count, surface_triangle_count, surface_triangles};
 
 use crate::caps::{End, write_cap};
 use crate::grid::{Chain, points, write_grid};
@@ -21,7 +21,7 @@ pub enum Ending {
 impl Ending {
     // The chain of the rings.
     pub(crate) fn chain(self) -> Chain
-        ensures { result ≡ chainOf self }
+        ensures { result ≡ chain_of self }
     {
         match self {
             Ending::Open => Chain::Open,
@@ -31,7 +31,7 @@ impl Ending {
     }
 
     fn is_capped(self) -> bool
-        ensures { result ≡ isCapped self }
+        ensures { result ≡ is_capped self }
     {
         match self {
             Ending::Open => false,
@@ -54,7 +54,7 @@ pub struct Surface {
 impl Surface {
     // How many rings of vertices there are.
     fn ring_count(self) -> u32
-        ensures { result ≡ ringCount self }
+        ensures { result ≡ ring_count self }
     {
         let ending = self.ending;
         points(ending.chain(), self.rows)
@@ -62,14 +62,14 @@ impl Surface {
 
     // How many vertices a ring has.
     pub(crate) fn ring_size(self) -> u32
-        ensures { result ≡ ringSize self }
+        ensures { result ≡ ring_size self }
     {
         let round = self.round;
         points(round, self.columns)
     }
 
     pub fn vertex_count(self) -> u64
-        ensures { result ≡ surfaceVertexCount self }
+        ensures { result ≡ surface_vertex_count self }
     {
         let grid = self.ring_count() as u64 * self.ring_size() as u64;
         let ending = self.ending;
@@ -80,7 +80,7 @@ impl Surface {
     }
 
     pub fn triangle_count(self) -> u64
-        ensures { result ≡ surfaceTriangleCount self }
+        ensures { result ≡ surface_triangle_count self }
     {
         let columns = self.columns as u64;
         let grid = 2 * (self.rows as u64 * columns);
@@ -101,11 +101,11 @@ impl Surface {
     }
 
     fn put_capped(self, first: u32, out: &mut [u32])
-        requires capped { isCapped self.ending ≡ true }
-        requires numbers { first + surfaceVertexCount self ≤ mostInAll }
-        requires within { 3 * surfaceTriangleCount self ≤ length out.old }
+        requires capped { is_capped self.ending ≡ true }
+        requires numbers { first + surface_vertex_count self ≤ most_in_all }
+        requires within { 3 * surface_triangle_count self ≤ length out.old }
         ensures { out.new
-            ≡ overwrite 0 (flatten (surfaceTriangles self first)) out.old }
+            ≡ overwrite 0 (flatten (surface_triangles self first)) out.old }
     {
         let rows = self.rows as u32;
         let columns = self.columns as u32;
@@ -122,10 +122,10 @@ impl Surface {
 
     // Writes the triangles of the surface whose first vertex is `first` to the front of `out`.
     pub fn put_triangles(self, first: u32, out: &mut [u32])
-        requires numbers { first + surfaceVertexCount self ≤ mostInAll }
-        requires within { 3 * surfaceTriangleCount self ≤ length out.old }
+        requires numbers { first + surface_vertex_count self ≤ most_in_all }
+        requires within { 3 * surface_triangle_count self ≤ length out.old }
         ensures { out.new
-            ≡ overwrite 0 (flatten (surfaceTriangles self first)) out.old }
+            ≡ overwrite 0 (flatten (surface_triangles self first)) out.old }
     {
         let ending = self.ending;
         if ending.is_capped() {
@@ -141,7 +141,7 @@ impl Surface {
     pub fn write_triangles(self, first: u32, out: &mut [u32]) -> bool
         ensures answer { result ≡ placeable self first (length out.old) }
         ensures written { out.new
-            ≡ placed result (flatten (surfaceTriangles self first)) out.old }
+            ≡ placed result (flatten (surface_triangles self first)) out.old }
     {
         if self.is_placeable(first, out.len()) {
             self.put_triangles(first, out);

@@ -14,22 +14,22 @@ use lib.Seq.{length-take-le, take-suc, take_all}
 use Rattle.laws.specs.Overwrite.{overwrite, overwrite-none, written_behind, overwrite-past, one_store}
 use Rattle.answers.specs.Answers.{Answer, refused, accepted, first_of, test}
 use Rattle.answers.proofs.FirstOf.{accepted-by}
-use Rattle.set_table.specs.Table.{totalsIn, undamaged}
+use Rattle.set_table.specs.Table.{totals_in, undamaged}
 use Rattle.set_table.specs.Buffers.{Buffers}
-use Rattle.set_file.specs.File.{fileIn, endTests, fileWordOf}
-use Rattle.sweep.specs.File.{fileWords}
+use Rattle.set_file.specs.File.{file_in, end_tests, file_word_of}
+use Rattle.sweep.specs.File.{file_words}
 
 -- the words of a file that is there or not, and the answer for its word at a place
 abbrev words_of : Bool → List ℕ → List ℕ
 words_of there file = cond there file []
 
-abbrev answerAt : Bool → List ℕ → ℕ → Answer ℕ
-answerAt there file i = first_of (test 1 there ∷ endTests file i) (get_or file i 0)
+abbrev answer_at : Bool → List ℕ → ℕ → Answer ℕ
+answer_at there file i = first_of (test 1 there ∷ end_tests file i) (get_or file i 0)
 
-word-here : (there : Bool) (file : List ℕ) (i : ℕ) {w : ℕ} → accepted w ≡ answerAt there file i
+word-here : (there : Bool) (file : List ℕ) (i : ℕ) {w : ℕ} → accepted w ≡ answer_at there file i
     → (i < length (words_of there file)) × (w ≡ get_or (words_of there file) i 0)
 word-here true file i h =
-    let told = accepted-by (endTests file i) (get_or file i 0) h in
+    let told = accepted-by (end_tests file i) (get_or file i 0) h in
     (omega (arith, leb-true (i + 1) (length file) told.1.0), told.0)
 word-here false file i h = let z : ◌≡◌ {A = ℕ} 0 1 = cc in absurd (omega arith)
 
@@ -37,7 +37,7 @@ not-passed : (p : Bool) {k : ℕ} (w : ℕ) → refused k ≡ cond p (accepted w
 not-passed true w h = let z : ◌≡◌ {A = ℕ} 0 1 = cc in absurd (omega arith)
 not-passed false w h = refl
 
-none_here : (there : Bool) (file : List ℕ) (i : ℕ) {k : ℕ} → refused k ≡ answerAt there file i → length (words_of there file) ≤ i
+none_here : (there : Bool) (file : List ℕ) (i : ℕ) {k : ℕ} → refused k ≡ answer_at there file i → length (words_of there file) ≤ i
 none_here true file i h = omega (arith, leb-false (i + 1) (length file) (not-passed (leb (i + 1) (length file)) (get_or file i 0) h))
 none_here false file i h = omega arith
 
@@ -46,13 +46,13 @@ module _ (s : Buffers) (i : ℕ) where
   abbrev there : Bool
   there = undamaged s.table (length s.vertices) (length s.triangles)
 
-  pub word-told : {w : ℕ} → accepted w ≡ fileWordOf s i → (i < length (fileWords s)) × (w ≡ get_or (fileWords s) i 0)
-  unfolding fileWords
-  word-told h = word-here there (fileIn (totalsIn s.table) s) i h
+  pub word-told : {w : ℕ} → accepted w ≡ file_word_of s i → (i < length (file_words s)) × (w ≡ get_or (file_words s) i 0)
+  unfolding file_words
+  word-told h = word-here there (file_in (totals_in s.table) s) i h
 
-  pub end-told : {k : ℕ} → refused k ≡ fileWordOf s i → length (fileWords s) ≤ i
-  unfolding fileWords
-  end-told h = none_here there (fileIn (totalsIn s.table) s) i h
+  pub end-told : {k : ℕ} → refused k ≡ file_word_of s i → length (file_words s) ≤ i
+  unfolding file_words
+  end-told h = none_here there (file_in (totals_in s.table) s) i h
 
 -- a buffer to whose front the first i words of `file` were written
 pub record Filled (file words₀ : List ℕ) (i : ℕ) (words : List ℕ) : Type 0 where

@@ -7,29 +7,29 @@
 use Rattle.std.specs.Prelude.{◌≡◌, List, [], ◌++◌, ℕ, ◌+◌, ◌<◌, length}
 use Rattle.set_table.specs.Buffers.{Buffers}
 use Rattle.ledger.specs.Calls.{Call, additions}
-use Rattle.records.specs.Records.{recordWords, firstAddition}
+use Rattle.records.specs.Records.{record_words, first_addition}
 
 -- a list of records, each by its words; it grows at its end
 pub data Records : Type 0 where
   none : Records
   then : Records → List ℕ → Records
 
-abbrev pub recordCount : Records → ℕ
-recordCount none = 0
-recordCount (then R words) = recordCount R + 1
+abbrev pub record_count : Records → ℕ
+record_count none = 0
+record_count (then R words) = record_count R + 1
 
 -- each is a record, whole and alone, and there is none without words
 abbrev pub EachWhole : Records → Type 0
 EachWhole none = Unit
-EachWhole (then R words) = EachWhole R × (0 < length words) × (length words ≡ recordWords words)
+EachWhole (then R words) = EachWhole R × (0 < length words) × (length words ≡ record_words words)
 
-abbrev pub additionsFrom : Records → List Call
-additionsFrom none = []
-additionsFrom (then R words) = additionsFrom R ++ firstAddition words
+abbrev pub additions_from : Records → List Call
+additions_from none = []
+additions_from (then R words) = additions_from R ++ first_addition words
 
 -- what `after` is to `before`: the additions of `count` whole records were made in between
 pub record AfterRecords (count : ℕ) (before after : Buffers) : Type 0 where
   pub records : Records
-  pub counted : count ≡ recordCount records
+  pub counted : count ≡ record_count records
   pub whole : EachWhole records
-  pub left : after ≡ (additions (additionsFrom records) before).left
+  pub left : after ≡ (additions (additions_from records) before).left

@@ -15,6 +15,6 @@ EndsWell (Some TooLong) = ⊥
 EndsWell (Some (Failed error)) = ⊥
 
 -- a line about the record of this number, counted from 1
-abbrev pub faultLine : ℕ → List ℕ → List ℕ
-faultLine number fault =
+abbrev pub fault_line : ℕ → List ℕ → List ℕ
+fault_line number fault =
     codes "sweep: record " ++ (decimal number ++ (codes " " ++ (fault ++ codes "; the set has only the records before it\n")))

@@ -1,7 +1,7 @@
 ghost use Rattle.std.specs.Prelude.{◌≡◌, ◌<◌, length, IfSome};
 ghost use Rattle.set_table.specs.Buffers.{buffers};
-ghost use Rattle.ledger.specs.Calls.{additions, clearedSet};
-ghost use Rattle.records.specs.Records.{recordWords, firstAddition};
+ghost use Rattle.ledger.specs.Calls.{additions, cleared_set};
+ghost use Rattle.records.specs.Records.{record_words, first_addition};
 ghost use Rattle.sweep.specs.Input.{AfterRecords};
 ghost use Rattle.sweep.specs.Known.{AddedFrom, AddedAll, UnlessFailed};
 
@@ -20,10 +20,10 @@ pub(crate) struct Reading {
 
 // Adds the body of the one record that `words` is.
 fn add_record(words: &[u32], table: &mut [u32], vertices: &mut [f32], triangles: &mut [u32])
-    requires { length words.now ≡ recordWords words.now }
+    requires { length words.now ≡ record_words words.now }
     ensures { let s = buffers table.old vertices.old triangles.old in
         buffers table.new vertices.new triangles.new
-        ≡ (additions (firstAddition words.now) s).left }
+        ≡ (additions (first_addition words.now) s).left }
 {
     add_first(words, table, vertices, triangles);
 }
@@ -74,15 +74,15 @@ pub(crate) fn collect<R: Read>(
 ) -> Reading
     ensures counted { IfSome result.stop (λ _. result.count < 18446744073709551615) }
     ensures after { let s = buffers table.old vertices.old triangles.old in
-        AfterRecords result.count (clearedSet s)
+        AfterRecords result.count (cleared_set s)
         (buffers table.new vertices.new triangles.new) }
     ensures front { let s = buffers table.old vertices.old triangles.old in
         IfSome (R.remaining input.old) (λ bytes.
-        AddedFrom bytes result.stop result.count (clearedSet s)
+        AddedFrom bytes result.stop result.count (cleared_set s)
         (buffers table.new vertices.new triangles.new)) }
     ensures all { let s = buffers table.old vertices.old triangles.old in
         IfSome (R.remaining input.old) (λ bytes. IfSome result.stop (λ why.
-        UnlessFailed why (AddedAll bytes (clearedSet s)
+        UnlessFailed why (AddedAll bytes (cleared_set s)
         (buffers table.new vertices.new triangles.new)))) }
 {
     shared_set::clear(table);

@@ -3,7 +3,7 @@ ghost use Rattle.std.specs.Io.KnownBytes.{Appends};
 ghost use Rattle.streams.specs.Filled.{AppendsFront};
 ghost use Rattle.laws.specs.Overwrite.{overwrite};
 ghost use Rattle.set_table.specs.Buffers.{buffers};
-ghost use Rattle.sweep.specs.File.{fileWords, fileBytes};
+ghost use Rattle.sweep.specs.File.{file_words, file_bytes};
 
 use little_endian::write_words;
 use set_file::{FileWord, file_word};
@@ -19,10 +19,10 @@ const BYTES: usize = 4 * WORDS;
 // Writes the file's words to the front of `words`, as many as fit, and answers how many these are.
 fn fill_file(table: &[u32], vertices: &[f32], triangles: &[u32], words: &mut [u32]) -> usize
     ensures count { let s = buffers table.now vertices.now triangles.now in
-        let file = fileWords s in
+        let file = file_words s in
         result ≡ min (length file) (length words.old) }
     ensures written { let s = buffers table.now vertices.now triangles.now in
-        let file = fileWords s in
+        let file = file_words s in
         words.new ≡ overwrite 0 file words.old }
 {
     let mut i: usize = 0;
@@ -49,10 +49,10 @@ fn write_bytes<W: Write>(
     triangles: &[u32],
     bytes: &[u8],
 ) -> io::Result<()>
-    requires { bytes.now ≡ fileBytes (buffers table.now vertices.now triangles.now) }
-    ensures whole { let file = fileBytes (buffers table.now vertices.now triangles.now) in
+    requires { bytes.now ≡ file_bytes (buffers table.now vertices.now triangles.now) }
+    ensures whole { let file = file_bytes (buffers table.now vertices.now triangles.now) in
         OnOk result (Appends (W.contents output.old) (W.contents output.new) file) }
-    ensures front { let file = fileBytes (buffers table.now vertices.now triangles.now) in
+    ensures front { let file = file_bytes (buffers table.now vertices.now triangles.now) in
         OnErr result (AppendsFront (W.contents output.old) (W.contents output.new) file) }
 {
     write_all(output, bytes)?;
@@ -73,9 +73,9 @@ fn write_through<W: Write>(
     requires triangle_room { 12288 ≡ length triangles.now }
     requires word_room { 24964 ≡ length words.old }
     requires byte_room { 99856 ≡ length bytes.old }
-    ensures whole { let file = fileBytes (buffers table.now vertices.now triangles.now) in
+    ensures whole { let file = file_bytes (buffers table.now vertices.now triangles.now) in
         OnOk result (Appends (W.contents output.old) (W.contents output.new) file) }
-    ensures front { let file = fileBytes (buffers table.now vertices.now triangles.now) in
+    ensures front { let file = file_bytes (buffers table.now vertices.now triangles.now) in
         OnErr result (AppendsFront (W.contents output.old) (W.contents output.new) file) }
 {
     let count = fill_file(table, vertices, triangles, words);
@@ -94,9 +94,9 @@ pub(crate) fn write_file<W: Write>(
     requires table_room { 385 ≡ length table.now }
     requires vertex_room { 12288 ≡ length vertices.now }
     requires triangle_room { 12288 ≡ length triangles.now }
-    ensures whole { let file = fileBytes (buffers table.now vertices.now triangles.now) in
+    ensures whole { let file = file_bytes (buffers table.now vertices.now triangles.now) in
         OnOk result (Appends (W.contents output.old) (W.contents output.new) file) }
-    ensures front { let file = fileBytes (buffers table.now vertices.now triangles.now) in
+    ensures front { let file = file_bytes (buffers table.now vertices.now triangles.now) in
         OnErr result (AppendsFront (W.contents output.old) (W.contents output.new) file) }
 {
     let mut words = [0u32; WORDS];

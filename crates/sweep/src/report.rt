@@ -1,6 +1,6 @@
 ghost use Rattle.std.specs.Prelude.{◌≡◌, ◌+◌, ◌<◌, IfSome, IsOk, OnOk, codes};
 ghost use Rattle.std.specs.Io.KnownBytes.{Appends, Keeps};
-ghost use Rattle.sweep.specs.Report.{EndsWell, faultLine};
+ghost use Rattle.sweep.specs.Report.{EndsWell, fault_line};
 
 use crate::input::Reading;
 use std::fmt::{Display, Formatter, InlineText};
@@ -29,7 +29,7 @@ impl Display for Words {
 // Writes a line to `errors`: which record is at fault, by its number, what is wrong with it, and what is kept.
 fn say<E: Write>(errors: &mut E, number: u64, fault: &str) -> io::Result<()>
     ensures { OnOk result (Appends (E.contents errors.old) (E.contents errors.new)
-        (faultLine number fault.now)) }
+        (fault_line number fault.now)) }
 {
     writeln!(
         errors,
@@ -51,10 +51,10 @@ pub(crate) fn report_reading<E: Write>(errors: &mut E, reading: Reading) -> io::
         → Keeps (E.contents errors.old) (E.contents errors.new) }
     ensures short { reading.stop ≡ Some Stop.Short
         → OnOk result (Appends (E.contents errors.old) (E.contents errors.new)
-        (faultLine (reading.count + 1) (codes "is cut short by the end of the input"))) }
+        (fault_line (reading.count + 1) (codes "is cut short by the end of the input"))) }
     ensures too_long { reading.stop ≡ Some Stop.TooLong
         → OnOk result (Appends (E.contents errors.old) (E.contents errors.new)
-        (faultLine (reading.count + 1) (codes "names more than 512 curve vertices"))) }
+        (fault_line (reading.count + 1) (codes "names more than 512 curve vertices"))) }
 {
     match reading.stop {
         None => Ok(()),

@@ -2,10 +2,10 @@ ghost use Rattle.std.specs.Prelude.{◌≡◌, length, IfSome, IsOk, OnOk, OnErr
 ghost use Rattle.std.specs.Io.KnownBytes.{Appends, Keeps};
 ghost use Rattle.streams.specs.Filled.{AppendsFront};
 ghost use Rattle.set_table.specs.Buffers.{buffers};
-ghost use Rattle.ledger.specs.Calls.{clearedSet};
+ghost use Rattle.ledger.specs.Calls.{cleared_set};
 ghost use Rattle.sweep.specs.Input.{AfterRecords};
 ghost use Rattle.sweep.specs.Known.{AddedAll, UnlessFailed};
-ghost use Rattle.sweep.specs.File.{fileBytes};
+ghost use Rattle.sweep.specs.File.{file_bytes};
 ghost use Rattle.sweep.specs.Report.{EndsWell};
 
 use crate::input::{Reading, collect};
@@ -34,15 +34,15 @@ pub(crate) fn sweep<R: Read, W: Write, E: Write>(
     requires table_room { 385 ≡ length table.old }
     requires vertex_room { 12288 ≡ length vertices.old }
     requires triangle_room { 12288 ≡ length triangles.old }
-    ensures set { let s = clearedSet (buffers table.old vertices.old triangles.old) in
+    ensures set { let s = cleared_set (buffers table.old vertices.old triangles.old) in
         AfterRecords result.reading.count s
         (buffers table.new vertices.new triangles.new) }
-    ensures all { let s = clearedSet (buffers table.old vertices.old triangles.old) in
+    ensures all { let s = cleared_set (buffers table.old vertices.old triangles.old) in
         IfSome (R.remaining input.old) (λ bytes. IfSome result.reading.stop (λ why.
         UnlessFailed why (AddedAll bytes s (buffers table.new vertices.new triangles.new)))) }
-    ensures whole { let file = fileBytes (buffers table.new vertices.new triangles.new) in
+    ensures whole { let file = file_bytes (buffers table.new vertices.new triangles.new) in
         OnOk result.writing (Appends (W.contents output.old) (W.contents output.new) file) }
-    ensures front { let file = fileBytes (buffers table.new vertices.new triangles.new) in
+    ensures front { let file = file_bytes (buffers table.new vertices.new triangles.new) in
         OnErr result.writing
         (AppendsFront (W.contents output.old) (W.contents output.new) file) }
     ensures quiet { EndsWell result.reading.stop → IsOk result.writing

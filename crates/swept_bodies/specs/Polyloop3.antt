@@ -5,10 +5,10 @@ use Rattle.std.specs.Prelude.{List, ℕ, Float}
 use Rattle.laws.specs.Blocks.{blocks}
 use Rattle.surface.specs.declared.grid.Chain.TheVariants.{Closed}
 use Rattle.vec3.specs.declared.frames.Frame.{Frame}
-use Rattle.curve.specs.Segments.{vertexOf, segmentDirection}
+use Rattle.curve.specs.Segments.{vertex_of, segment_direction}
 use Rattle.curve.specs.Framex.{frame_of}
-use Rattle.rings.specs.Axes.{axesAt}
-use Rattle.rings.specs.Vertices.{ringOf, torusVertex}
+use Rattle.rings.specs.Axes.{axes_at}
+use Rattle.rings.specs.Vertices.{ring_of, torus_vertex}
 use Rattle.rings.specs.declared.axes.Axes.{Axes}
 
 -- "Closed: frames 1 to N − 1 transported, the last onto the closing segment."
@@ -17,16 +17,16 @@ vtx2framex N c g = frame_of Closed N c g
 
 -- The axes at vertex g, from the frame there: "Torus: ez is the segment leaving the vertex",
 -- normalised, as everywhere where a segment is ez.
-unfoldable pub axesOf : ℕ → List Float → Frame → ℕ → Axes
-axesOf N c frame g = axesAt (vertexOf c g) frame (segmentDirection Closed N c g)
+unfoldable pub axes_of : ℕ → List Float → Frame → ℕ → Axes
+axes_of N c frame g = axes_at (vertex_of c g) frame (segment_direction Closed N c g)
 
 -- the ring at vertex g, from the frame there
-abbrev pub torusRing : ℕ → Float → ℕ → List Float → Frame → ℕ → List Float
-torusRing n r N c frame g = ringOf (torusVertex (axesOf N c frame g) r) n
+abbrev pub torus_ring : ℕ → Float → ℕ → List Float → Frame → ℕ → List Float
+torus_ring n r N c frame g = ring_of (torus_vertex (axes_of N c frame g) r) n
 
 -- the torus has the frames of `vtx2framex`
-abbrev pub torusPart : ℕ → Float → ℕ → List Float → ℕ → List Float
-torusPart n r N c g = torusRing n r N c (vtx2framex N c g) g
+abbrev pub torus_part : ℕ → Float → ℕ → List Float → ℕ → List Float
+torus_part n r N c g = torus_ring n r N c (vtx2framex N c g) g
 
-abbrev pub torusVertices : ℕ → Float → ℕ → List Float → List Float
-torusVertices n r N c = blocks N (torusPart n r N c)
+abbrev pub torus_vertices : ℕ → Float → ℕ → List Float → List Float
+torus_vertices n r N c = blocks N (torus_part n r N c)

@@ -1,8 +1,8 @@
 ghost use Rattle.std.specs.Prelude.{◌≡◌, ◌+◌, ◌-◌, ◌*◌, ◌≤◌, length};
 ghost use Rattle.laws.specs.Overwrite.{overwrite};
-ghost use Rattle.curve.specs.Segments.{verticesIn};
-ghost use Rattle.swept_bodies.specs.Polyline3.{ribbonPair, ribbonVertices, tubeVertices};
-ghost use Rattle.swept_bodies.specs.Capsule.{CapsuleFits, capsuleVertices};
+ghost use Rattle.curve.specs.Segments.{vertices_in};
+ghost use Rattle.swept_bodies.specs.Polyline3.{ribbon_pair, ribbon_vertices, tube_vertices};
+ghost use Rattle.swept_bodies.specs.Capsule.{CapsuleFits, capsule_vertices};
 ghost use Rattle.swept_bodies.specs.Tables.{OpenCurve};
 ghost use Rattle.swept_bodies.specs.Swept.{OpenSweep};
 
@@ -22,11 +22,11 @@ pub fn set_vtx2xyz_for_generalized_cylinder_open_end(
     r: f32,
 )
     requires open_curve { OpenCurve curve.now directions.now }
-    requires ez_room { (verticesIn curve.now - 1) * 3 ≤ length ez.old }
+    requires ez_room { (vertices_in curve.now - 1) * 3 ≤ length ez.old }
     requires divisions_permitted { n ≤ 256 }
-    requires room { (verticesIn curve.now - 1 + 1) * (n * 3) ≤ length out.old }
+    requires room { (vertices_in curve.now - 1 + 1) * (n * 3) ≤ length out.old }
     ensures { let c = curve.now in
-        out.new ≡ overwrite 0 (tubeVertices n r (verticesIn c - 1) c) out.old }
+        out.new ≡ overwrite 0 (tube_vertices n r (vertices_in c - 1) c) out.old }
 {
     let mut turns = [0.0f32; TURN_FLOATS];
     fill_turns(n, &mut turns);
@@ -52,7 +52,7 @@ fn write_tube(
 )
     requires open_sweep { OpenSweep sweep curve.now directions.now ez.now turns.now }
     requires room { (sweep.segments + 1) * (sweep.divisions * 3) ≤ length out.old }
-    ensures { let tube = tubeVertices sweep.divisions sweep.radius sweep.segments curve.now in
+    ensures { let tube = tube_vertices sweep.divisions sweep.radius sweep.segments curve.now in
         out.new ≡ overwrite 0 tube out.old }
 {
     let order = sweep.order;
@@ -80,10 +80,10 @@ pub fn to_trimesh3_capsule(
     r: f32,
 )
     requires open_curve { OpenCurve curve.now directions.now }
-    requires ez_room { (verticesIn curve.now - 1) * 3 ≤ length ez.old }
-    requires capsule_fits { CapsuleFits (verticesIn curve.now - 1) n longitudes (length out.old) }
+    requires ez_room { (vertices_in curve.now - 1) * 3 ≤ length ez.old }
+    requires capsule_fits { CapsuleFits (vertices_in curve.now - 1) n longitudes (length out.old) }
     ensures { let c = curve.now in
-        out.new ≡ overwrite 0 (capsuleVertices n longitudes r (verticesIn c - 1) c) out.old }
+        out.new ≡ overwrite 0 (capsule_vertices n longitudes r (vertices_in c - 1) c) out.old }
 {
     let mut turns = [0.0f32; TURN_FLOATS];
     fill_turns(n, &mut turns);
@@ -112,7 +112,7 @@ fn write_capsule(
     requires open_sweep { OpenSweep sweep curve.now directions.now ez.now turns.now }
     requires capsule_fits { CapsuleFits sweep.segments sweep.divisions longitudes (length out.old) }
     ensures { let c = curve.now in
-        let capsule = capsuleVertices sweep.divisions longitudes sweep.radius sweep.segments c in
+        let capsule = capsule_vertices sweep.divisions longitudes sweep.radius sweep.segments c in
         out.new ≡ overwrite 0 capsule out.old }
 {
     let m = sweep.segments as usize;
@@ -133,7 +133,7 @@ fn write_capsule(
 // lies `width` beside it.
 fn put_pair(out: &mut [f32], at: usize, p: Point, frame: Frame, width: f32)
     requires { at + 6 ≤ length out.old }
-    ensures { out.new ≡ overwrite at (ribbonPair p frame width) out.old }
+    ensures { out.new ≡ overwrite at (ribbon_pair p frame width) out.old }
 {
     put_point(out, at, p);
     put_point(out, at + 3, p.add(frame.ex.scale(width)));
@@ -142,9 +142,9 @@ fn put_pair(out: &mut [f32], at: usize, p: Point, frame: Frame, width: f32)
 // Writes the vertices of a ribbon to the front of `out`.
 pub fn to_trimesh3_ribbon(out: &mut [f32], curve: &[f32], directions: &[f32], width: f32)
     requires open_curve { OpenCurve curve.now directions.now }
-    requires room { (verticesIn curve.now - 1 + 1) * 6 ≤ length out.old }
+    requires room { (vertices_in curve.now - 1 + 1) * 6 ≤ length out.old }
     ensures { let c = curve.now in
-        out.new ≡ overwrite 0 (ribbonVertices width (verticesIn c - 1) c) out.old }
+        out.new ≡ overwrite 0 (ribbon_vertices width (vertices_in c - 1) c) out.old }
 {
     let m = curve.len() / 3 - 1;
     let mut carried = Carried::first(point(directions, 0));

@@ -1,7 +1,7 @@
 ghost use Rattle.std.specs.Prelude.{◌≡◌, ◌*◌, ◌≤◌, length};
 ghost use Rattle.laws.specs.Overwrite.{overwrite};
-ghost use Rattle.curve.specs.Segments.{verticesIn};
-ghost use Rattle.swept_bodies.specs.Polyloop3.{torusVertices};
+ghost use Rattle.curve.specs.Segments.{vertices_in};
+ghost use Rattle.swept_bodies.specs.Polyloop3.{torus_vertices};
 ghost use Rattle.swept_bodies.specs.Tables.{ClosedCurve};
 ghost use Rattle.swept_bodies.specs.Swept.{ClosedSweep};
 
@@ -14,9 +14,9 @@ use rings::{Order, Ring};
 pub fn to_trimesh3_torus(out: &mut [f32], curve: &[f32], directions: &[f32], n: u16, r: f32)
     requires closed_curve { ClosedCurve curve.now directions.now }
     requires divisions_permitted { n ≤ 256 }
-    requires room { verticesIn curve.now * (n * 3) ≤ length out.old }
+    requires room { vertices_in curve.now * (n * 3) ≤ length out.old }
     ensures { let c = curve.now in
-        out.new ≡ overwrite 0 (torusVertices n r (verticesIn c) c) out.old }
+        out.new ≡ overwrite 0 (torus_vertices n r (vertices_in c) c) out.old }
 {
     let mut turns = [0.0f32; TURN_FLOATS];
     fill_turns(n, &mut turns);
@@ -35,7 +35,7 @@ pub fn to_trimesh3_torus(out: &mut [f32], curve: &[f32], directions: &[f32], n: 
 fn write_torus(out: &mut [f32], curve: &[f32], directions: &[f32], sweep: Sweep, turns: &[f32])
     requires closed_sweep { ClosedSweep sweep curve.now directions.now turns.now }
     requires room { sweep.segments * (sweep.divisions * 3) ≤ length out.old }
-    ensures { let torus = torusVertices sweep.divisions sweep.radius sweep.segments curve.now in
+    ensures { let torus = torus_vertices sweep.divisions sweep.radius sweep.segments curve.now in
         out.new ≡ overwrite 0 torus out.old }
 {
     let order = sweep.order;

@@ -1,10 +1,10 @@
 ghost use Rattle.std.specs.Prelude.{◌≡◌, ◌-◌, ◌*◌, ◌≤◌, length};
 ghost use Rattle.laws.specs.Overwrite.{overwrite};
-ghost use Rattle.curve.specs.Segments.{vertexOf};
-ghost use Rattle.rings.specs.Axes.{axesAt};
+ghost use Rattle.curve.specs.Segments.{vertex_of};
+ghost use Rattle.rings.specs.Axes.{axes_at};
 ghost use Rattle.ring_writers.specs.Tables.{Turns};
-ghost use Rattle.swept_bodies.specs.Tables.{EzTable, carriedIn};
-ghost use Rattle.swept_bodies.specs.Swept.{innerRings};
+ghost use Rattle.swept_bodies.specs.Tables.{EzTable, carried_in};
+ghost use Rattle.swept_bodies.specs.Swept.{inner_rings};
 
 use curve::{Carried, point};
 use ring_writers::{put_point, write_ring};
@@ -23,7 +23,7 @@ pub struct Sweep {
 // The axes at vertex `k`, with ez along the segment that the frame has been carried to: at the
 // ends of an open curve, and at a loop's first vertex.
 pub(crate) fn axes_on(curve: &[f32], k: usize, carried: Carried) -> Axes
-    ensures { result ≡ axesAt (vertexOf curve.now k) carried.frame carried.direction }
+    ensures { result ≡ axes_at (vertex_of curve.now k) carried.frame carried.direction }
 {
     Axes::at(curve::vertex(curve, k), carried.frame, carried.direction)
 }
@@ -60,13 +60,13 @@ pub(crate) fn write_inner(
     turns: &[f32],
 ) -> Carried
     requires segment { 1 ≤ sweep.segments }
-    requires started { start ≡ carriedIn directions.now 0 }
+    requires started { start ≡ carried_in directions.now 0 }
     requires directions_room { sweep.segments * 3 ≤ length directions.now }
     requires ez_room { sweep.segments * 3 ≤ length ez.now }
     requires room { (sweep.segments - 1) * (sweep.divisions * 3) ≤ length out.old }
     requires turned { Turns sweep.divisions turns.now }
-    ensures carried { result ≡ carriedIn directions.now (sweep.segments - 1) }
-    ensures written { let rings = innerRings sweep curve.now directions.now ez.now in
+    ensures carried { result ≡ carried_in directions.now (sweep.segments - 1) }
+    ensures written { let rings = inner_rings sweep curve.now directions.now ez.now in
         out.new ≡ overwrite 0 rings out.old }
 {
     let order = sweep.order;

@@ -8,13 +8,13 @@ use Rattle.descriptions.specs.declared.kind.Described.TheVariants.{Known, Unknow
 use Rattle.set_table.specs.Buffers.{Buffers}
 use Rattle.shared_set.specs.Additions.{taken}
 use Rattle.shared_set.specs.Set.{After, added}
-use Rattle.togbefulo.specs.Face.{unknownKind}
+use Rattle.togbefulo.specs.Face.{unknown_kind}
 
-abbrev pub addedAs : Described → List Float → Buffers → After
-addedAs (Known d) c s = added (taken d c) s
-addedAs Unknown c s = record { answer = refused unknownKind; left = s }
+abbrev pub added_as : Described → List Float → Buffers → After
+added_as (Known d) c s = added (taken d c) s
+added_as Unknown c s = record { answer = refused unknown_kind; left = s }
 
 -- the word if it is accepted, and otherwise what was there
-abbrev pub wordAfter : Answer ℕ → List ℕ → List ℕ
-wordAfter (refused number) old = old
-wordAfter (accepted w) old = overwrite 0 (w ∷ []) old
+abbrev pub word_after : Answer ℕ → List ℕ → List ℕ
+word_after (refused number) old = old
+word_after (accepted w) old = overwrite 0 (w ∷ []) old

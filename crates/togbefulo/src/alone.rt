@@ -4,19 +4,19 @@
 // is ignored. Answers are document 01's numbers, 0 for what is accepted, and 2^32 − 1 for an
 // unknown kind.
 ghost use Rattle.std.specs.Prelude.{◌≡◌};
-ghost use Rattle.float32.specs.Scan.{allFinite};
+ghost use Rattle.float32.specs.Scan.{all_finite};
 ghost use Rattle.laws.specs.Overwrite.{placed};
 ghost use Rattle.answers.specs.Answers.{number_in};
-ghost use Rattle.descriptions.specs.Answers.{verdictAnswer, countedAnswer};
-ghost use Rattle.descriptions.specs.KindNumbers.{describedOf};
-ghost use Rattle.togbefulo.specs.Face.{checkNumber, countsNumber, countsIn, countsAfter, isDrawn, drawnVertices};
+ghost use Rattle.descriptions.specs.Answers.{verdict_answer, counted_answer};
+ghost use Rattle.descriptions.specs.KindNumbers.{described_of};
+ghost use Rattle.togbefulo.specs.Face.{check_number, counts_number, counts_in, counts_after, is_drawn, drawn_vertices};
 
 use descriptions::{Counted, Described, Verdict, of_kind};
 
 pub(crate) const UNKNOWN_KIND: u32 = 0xffff_ffff;
 
 fn number(verdict: Verdict) -> u32
-    ensures { result ≡ number_in (verdictAnswer verdict) }
+    ensures { result ≡ number_in (verdict_answer verdict) }
 {
     match verdict {
         Verdict::Accepted(_) => 0,
@@ -26,8 +26,8 @@ fn number(verdict: Verdict) -> u32
 
 // Writes the counts, if the answer has them, and answers its number.
 fn put_counts(counted: Counted, counts: &mut [u32; 2]) -> u32
-    ensures number { result ≡ number_in (countedAnswer counted) }
-    ensures counts_after { counts.new ≡ countsIn (countedAnswer counted) counts.old }
+    ensures number { result ≡ number_in (counted_answer counted) }
+    ensures counts_after { counts.new ≡ counts_in (counted_answer counted) counts.old }
 {
     match counted {
         Counted::Refused(why) => why.number(),
@@ -55,9 +55,9 @@ pub extern "C" fn togbefulo_counts(
     vertices: usize,
     counts: &mut [u32; 2],
 ) -> u32
-    ensures number { result ≡ countsNumber (describedOf kind divisions steps centred size length) vertices }
-    ensures counts_after { let d = describedOf kind divisions steps centred size length in
-        counts.new ≡ countsAfter d vertices counts.old }
+    ensures number { result ≡ counts_number (described_of kind divisions steps centred size length) vertices }
+    ensures counts_after { let d = described_of kind divisions steps centred size length in
+        counts.new ≡ counts_after d vertices counts.old }
 {
     match of_kind(kind, divisions, steps, centred, size, length) {
         Described::Unknown => UNKNOWN_KIND,
@@ -77,7 +77,7 @@ pub extern "C" fn togbefulo_check(
     length: f32,
     curve: &[f32],
 ) -> u32
-    ensures { result ≡ checkNumber (describedOf kind divisions steps centred size length) curve.now }
+    ensures { result ≡ check_number (described_of kind divisions steps centred size length) curve.now }
 {
     match of_kind(kind, divisions, steps, centred, size, length) {
         Described::Unknown => UNKNOWN_KIND,
@@ -99,10 +99,10 @@ pub extern "C" fn togbefulo_vertices(
     curve: &[f32],
     out: &mut [f32],
 ) -> bool
-    ensures drawn { let d = describedOf kind divisions steps centred size length in
-        result ≡ isDrawn d curve.now out.old }
-    ensures out_after { let d = describedOf kind divisions steps centred size length in
-        out.new ≡ placed result (drawnVertices d curve.now) out.old }
+    ensures drawn { let d = described_of kind divisions steps centred size length in
+        result ≡ is_drawn d curve.now out.old }
+    ensures out_after { let d = described_of kind divisions steps centred size length in
+        out.new ≡ placed result (drawn_vertices d curve.now) out.old }
 {
     match of_kind(kind, divisions, steps, centred, size, length) {
         Described::Unknown => false,
@@ -113,7 +113,7 @@ pub extern "C" fn togbefulo_vertices(
 // Whether every value is finite.
 #[unsafe(no_mangle)]
 pub extern "C" fn togbefulo_are_finite(values: &[f32]) -> bool
-    ensures { result ≡ allFinite values.now }
+    ensures { result ≡ all_finite values.now }
 {
     float32::are_finite(values)
 }

@@ -3,13 +3,13 @@ ghost use Rattle.std.specs.Prelude.{◌≡◌};
 ghost use Rattle.std.specs.Float.{binary32};
 ghost use Rattle.std.specs.Float.Ieee.{of_bits, to_bits};
 ghost use Rattle.std.specs.Float.Ieee.Scale.{finite};
-ghost use Rattle.float32.specs.Root.{rootOf};
+ghost use Rattle.float32.specs.Root.{root_of};
 ghost use Rattle.vec3.specs.Turns.{turn_of};
 
 // IEEE 754's square root.
 #[unsafe(no_mangle)]
 pub extern "C" fn togbefulo_root(x: f32) -> f32
-    ensures { result ≡ rootOf x }
+    ensures { result ≡ root_of x }
 {
     float32::root(x)
 }

@@ -5,7 +5,7 @@
 ghost use Rattle.std.specs.Prelude.{◌≡◌, length};
 ghost use Rattle.surface.specs.Triangles.{flatten, shift};
 ghost use Rattle.laws.specs.Overwrite.{placed};
-ghost use Rattle.kinds.specs.Kinds.{trianglesOf, writable};
+ghost use Rattle.kinds.specs.Kinds.{triangles_of, writable};
 ghost use Rattle.kinds.specs.declared.topology.Topology.{Topology};
 
 use kinds::{Capsule, ClosedCylinder, Ribbon, Topology, Torus, Tube};
@@ -15,7 +15,7 @@ pub extern "C" fn togbefulo_ribbon_triangles(segments: u16, first: u32, out: &mu
     ensures written { let body = Topology.Ribbon (record { segments = segments }) in
         result ≡ writable body first (length out.old) }
     ensures out_after { let body = Topology.Ribbon (record { segments = segments }) in
-        out.new ≡ placed result (flatten (shift first (trianglesOf body))) out.old }
+        out.new ≡ placed result (flatten (shift first (triangles_of body))) out.old }
 {
     Topology::Ribbon(Ribbon { segments }).write_triangles(first, out)
 }
@@ -30,7 +30,7 @@ pub extern "C" fn togbefulo_tube_triangles(
     ensures written { let body = Topology.Tube (record { divisions = divisions; segments = segments }) in
         result ≡ writable body first (length out.old) }
     ensures out_after { let body = Topology.Tube (record { divisions = divisions; segments = segments }) in
-        out.new ≡ placed result (flatten (shift first (trianglesOf body))) out.old }
+        out.new ≡ placed result (flatten (shift first (triangles_of body))) out.old }
 {
     Topology::Tube(Tube {
         divisions,
@@ -52,7 +52,7 @@ pub extern "C" fn togbefulo_capsule_triangles(
         result ≡ writable body first (length out.old) }
     ensures out_after { let body = Topology.Capsule
         (record { divisions = divisions; longitudes = longitudes; segments = segments }) in
-        out.new ≡ placed result (flatten (shift first (trianglesOf body))) out.old }
+        out.new ≡ placed result (flatten (shift first (triangles_of body))) out.old }
 {
     Topology::Capsule(Capsule {
         divisions,
@@ -72,7 +72,7 @@ pub extern "C" fn togbefulo_torus_triangles(
     ensures written { let body = Topology.Torus (record { divisions = divisions; vertices = vertices }) in
         result ≡ writable body first (length out.old) }
     ensures out_after { let body = Topology.Torus (record { divisions = divisions; vertices = vertices }) in
-        out.new ≡ placed result (flatten (shift first (trianglesOf body))) out.old }
+        out.new ≡ placed result (flatten (shift first (triangles_of body))) out.old }
 {
     Topology::Torus(Torus {
         divisions,
@@ -91,7 +91,7 @@ pub extern "C" fn togbefulo_closed_cylinder_triangles(
     ensures written { let body = Topology.ClosedCylinder (record { divisions = divisions; layers = layers }) in
         result ≡ writable body first (length out.old) }
     ensures out_after { let body = Topology.ClosedCylinder (record { divisions = divisions; layers = layers }) in
-        out.new ≡ placed result (flatten (shift first (trianglesOf body))) out.old }
+        out.new ≡ placed result (flatten (shift first (triangles_of body))) out.old }
 {
     Topology::ClosedCylinder(ClosedCylinder { divisions, layers }).write_triangles(first, out)
 }

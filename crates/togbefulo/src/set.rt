@@ -2,13 +2,13 @@
 // Answers are document 01's numbers, 0 for what is accepted, and 2^32 − 1 for an unknown kind.
 ghost use Rattle.std.specs.Prelude.{◌≡◌};
 ghost use Rattle.answers.specs.Answers.{number_in};
-ghost use Rattle.descriptions.specs.KindNumbers.{describedOf};
+ghost use Rattle.descriptions.specs.KindNumbers.{described_of};
 ghost use Rattle.set_table.specs.Buffers.{buffers};
-ghost use Rattle.shared_set.specs.Set.{clearAnswer, cleared};
-ghost use Rattle.set_file.specs.Answers.{wordAnswer};
-ghost use Rattle.set_file.specs.File.{fileWordOf};
-ghost use Rattle.records.specs.Built.{builtOf};
-ghost use Rattle.togbefulo.specs.SetFace.{addedAs, wordAfter};
+ghost use Rattle.shared_set.specs.Set.{clear_answer, cleared};
+ghost use Rattle.set_file.specs.Answers.{word_answer};
+ghost use Rattle.set_file.specs.File.{file_word_of};
+ghost use Rattle.records.specs.Built.{built_of};
+ghost use Rattle.togbefulo.specs.SetFace.{added_as, word_after};
 
 use crate::alone::UNKNOWN_KIND;
 use descriptions::{Described, of_kind};
@@ -17,7 +17,7 @@ use set_file::FileWord;
 // Empties the set: sets word 0 of the table to 0. An empty table is refused (1).
 #[unsafe(no_mangle)]
 pub extern "C" fn togbefulo_clear(table: &mut [u32]) -> u32
-    ensures number { result ≡ number_in (clearAnswer table.old) }
+    ensures number { result ≡ number_in (clear_answer table.old) }
     ensures table_after { table.new ≡ cleared table.old }
 {
     shared_set::clear(table).number()
@@ -40,12 +40,12 @@ pub extern "C" fn togbefulo_add(
     triangles: &mut [u32],
 ) -> u32
     ensures number { let s = buffers table.old vertices.old triangles.old in
-        let d = describedOf kind divisions steps centred size length in
-        result ≡ number_in (addedAs d curve.now s).answer }
+        let d = described_of kind divisions steps centred size length in
+        result ≡ number_in (added_as d curve.now s).answer }
     ensures buffers_after { let s = buffers table.old vertices.old triangles.old in
-        let d = describedOf kind divisions steps centred size length in
+        let d = described_of kind divisions steps centred size length in
         buffers table.new vertices.new triangles.new
-        ≡ (addedAs d curve.now s).left }
+        ≡ (added_as d curve.now s).left }
 {
     match of_kind(kind, divisions, steps, centred, size, length) {
         Described::Unknown => UNKNOWN_KIND,
@@ -57,8 +57,8 @@ pub extern "C" fn togbefulo_add(
 
 // Writes the word, if the answer has one, and answers its number.
 fn put_word(answer: FileWord, word: &mut [u32; 1]) -> u32
-    ensures number { result ≡ number_in (wordAnswer answer) }
-    ensures word_after { word.new ≡ wordAfter (wordAnswer answer) word.old }
+    ensures number { result ≡ number_in (word_answer answer) }
+    ensures word_after { word.new ≡ word_after (word_answer answer) word.old }
 {
     match answer {
         FileWord::Refused(why) => why.number(),
@@ -80,9 +80,9 @@ pub extern "C" fn togbefulo_file_word(
     word: &mut [u32; 1],
 ) -> u32
     ensures number { let s = buffers table.now vertices.now triangles.now in
-        result ≡ number_in (fileWordOf s place) }
+        result ≡ number_in (file_word_of s place) }
     ensures word_after { let s = buffers table.now vertices.now triangles.now in
-        word.new ≡ wordAfter (fileWordOf s place) word.old }
+        word.new ≡ word_after (file_word_of s place) word.old }
 {
     put_word(set_file::file_word(table, vertices, triangles, place), word)
 }
@@ -99,12 +99,12 @@ pub extern "C" fn togbefulo_build(
     triangles: &mut [u32],
 ) -> u32
     ensures number { let s = buffers table.old vertices.old triangles.old in
-        result ≡ number_in (builtOf records.now answers.old s).answer }
+        result ≡ number_in (built_of records.now answers.old s).answer }
     ensures answers_after { let s = buffers table.old vertices.old triangles.old in
-        answers.new ≡ (builtOf records.now answers.old s).answers }
+        answers.new ≡ (built_of records.now answers.old s).answers }
     ensures buffers_after { let s = buffers table.old vertices.old triangles.old in
         buffers table.new vertices.new triangles.new
-        ≡ (builtOf records.now answers.old s).left }
+        ≡ (built_of records.now answers.old s).left }
 {
     records::build(records, answers, table, vertices, triangles).number()
 }

@@ -11,17 +11,17 @@ use lib.Ieee.{Float, le}
 use lib.Ieee.Scale.{finite}
 use Rattle.laws.specs.Conjunction.{both_true}
 use Rattle.laws.specs.Every.{every, every-each, each-every}
-use Rattle.twists.specs.Twists.{forward, backwards, isTwist, scoreOf, Best, twistAt, scoresFinite}
-use Rattle.twists.specs.Chosen.{leaderAt, chosenTwist}
+use Rattle.twists.specs.Twists.{forward, backwards, is_twist, score_of, Best, twist_at, scores_finite}
+use Rattle.twists.specs.Chosen.{leader_at, chosen_twist}
 use Rattle.twists.specs.declared.twist.Twist.{Twist}
 use Rattle.twists.proofs.Leaders.{Leading, leading}
 
 -- ---- places and twists
-twist-within : (i : ℕ) → i < 4096 → isTwist (twistAt i) ≡ true
-unfolding twistAt
+twist-within : (i : ℕ) → i < 4096 → is_twist (twist_at i) ≡ true
+unfolding twist_at
 twist-within i h = go (leb i 2048) refl
   where
-    go : (t : Bool) → leb i 2048 ≡ t → isTwist (cond t (forward i) (backwards (i - 2048))) ≡ true
+    go : (t : Bool) → leb i 2048 ≡ t → is_twist (cond t (forward i) (backwards (i - 2048))) ≡ true
     go true l = l
     go false l =
         let n = leb-false i 2048 l in
@@ -31,16 +31,16 @@ twist-within i h = go (leb i 2048) refl
 abbrev place_of : Twist → ℕ
 place_of k = cond k.backward (2048 + k.steps) k.steps
 
--- what `isTwist` says of a twist's place
+-- what `is_twist` says of a twist's place
 record Placed (k : Twist) : Type 0 where
   within : place_of k < 4096
-  twist : twistAt (place_of k) ≡ k
+  twist : twist_at (place_of k) ≡ k
 
-placed : (k : Twist) → isTwist k ≡ true → Placed k
-unfolding twistAt
+placed : (k : Twist) → is_twist k ≡ true → Placed k
+unfolding twist_at
 placed k = go k.steps k.backward
   where
-    go : (n : ℕ) (b : Bool) → isTwist (record { steps = n; backward = b }) ≡ true
+    go : (n : ℕ) (b : Bool) → is_twist (record { steps = n; backward = b }) ≡ true
         → Placed (record { steps = n; backward = b })
     go n false h =
         let l = leb-true n 2048 h in
@@ -53,45 +53,45 @@ placed k = go k.steps k.backward
         record { within = omega arith; twist = rw (lt-leb (2048 + n) 2048 (omega arith), e) }
 
 -- ---- the scores
-abbrev scoreAt : Float → Float → ℕ → Float
-scoreAt c0 s0 i = scoreOf c0 s0 (twistAt i)
+abbrev score_at : Float → Float → ℕ → Float
+score_at c0 s0 i = score_of c0 s0 (twist_at i)
 
-finite-at : (c0 s0 : Float) → scoresFinite c0 s0 ≡ true → (i : ℕ) → i < 4096 → finite (scoreAt c0 s0 i) ≡ true
-unfolding scoresFinite
+finite-at : (c0 s0 : Float) → scores_finite c0 s0 ≡ true → (i : ℕ) → i < 4096 → finite (score_at c0 s0 i) ≡ true
+unfolding scores_finite
 finite-at c0 s0 h =
-    let f : ℕ → Bool = λ i. finite (scoreAt c0 s0 i) in
+    let f : ℕ → Bool = λ i. finite (score_at c0 s0 i) in
     every-each 4096 f (both_true (finite c0 && finite s0) (every 4096 f) h).1
 
 -- Where the scores are finite, that of each twist is.
-pub scores-each : (c0 s0 : Float) → scoresFinite c0 s0 ≡ true → (k : Twist) → isTwist k ≡ true
-    → finite (scoreOf c0 s0 k) ≡ true
+pub scores-each : (c0 s0 : Float) → scores_finite c0 s0 ≡ true → (k : Twist) → is_twist k ≡ true
+    → finite (score_of c0 s0 k) ≡ true
 scores-each c0 s0 h k is =
     let p = placed k is in
-    ap (λ (t : Twist). finite (scoreOf c0 s0 t)) (sym p.twist) ∙ finite-at c0 s0 h (place_of k) p.within
+    ap (λ (t : Twist). finite (score_of c0 s0 t)) (sym p.twist) ∙ finite-at c0 s0 h (place_of k) p.within
 
 -- the other way round
 pub each-scores : (c0 s0 : Float) → finite c0 ≡ true → finite s0 ≡ true
-    → ((k : Twist) → isTwist k ≡ true → finite (scoreOf c0 s0 k) ≡ true) → scoresFinite c0 s0 ≡ true
-unfolding scoresFinite
+    → ((k : Twist) → is_twist k ≡ true → finite (score_of c0 s0 k) ≡ true) → scores_finite c0 s0 ≡ true
+unfolding scores_finite
 each-scores c0 s0 c s each =
-    let all = each-every 4096 (λ i. finite (scoreAt c0 s0 i)) (λ i h. each (twistAt i) (twist-within i h)) in
+    let all = each-every 4096 (λ i. finite (score_at c0 s0 i)) (λ i h. each (twist_at i) (twist-within i h)) in
     λ i. (c i && s i) && all i
 
 -- ---- the chosen twist
-leads-first : (c0 s0 : Float) → Leading (scoreAt c0 s0) 4096 0 (leaderAt c0 s0 0)
-unfolding twistAt
+leads-first : (c0 s0 : Float) → Leading (score_at c0 s0) 4096 0 (leader_at c0 s0 0)
+unfolding twist_at
 leads-first c0 s0 = record { within = omega arith; own = refl; greatest = λ k h. absurd (not-suc-le-zero h) }
 
-leads-last : (c0 s0 : Float) → scoresFinite c0 s0 ≡ true → Leading (scoreAt c0 s0) 4096 4096 (leaderAt c0 s0 4096)
+leads-last : (c0 s0 : Float) → scores_finite c0 s0 ≡ true → Leading (score_at c0 s0) 4096 4096 (leader_at c0 s0 4096)
 leads-last c0 s0 h =
-    leading (scoreAt c0 s0) 4096 (finite-at c0 s0 h) 4096 (leaderAt c0 s0 0) (omega arith) (leads-first c0 s0)
+    leading (score_at c0 s0) 4096 (finite-at c0 s0 h) 4096 (leader_at c0 s0 0) (omega arith) (leads-first c0 s0)
 
-pub chosen-best : (c0 s0 : Float) → scoresFinite c0 s0 ≡ true → Best c0 s0 (chosenTwist c0 s0)
-unfolding chosenTwist
+pub chosen-best : (c0 s0 : Float) → scores_finite c0 s0 ≡ true → Best c0 s0 (chosen_twist c0 s0)
+unfolding chosen_twist
 chosen-best c0 s0 h =
-    let leader = leaderAt c0 s0 4096 in
+    let leader = leader_at c0 s0 4096 in
     let last = leads-last c0 s0 h in
-    let score = scoreOf c0 s0 in
+    let score = score_of c0 s0 in
     record {
       within = twist-within leader.place last.within;
       greatest = λ k is. let p = placed k is in

@@ -8,8 +8,8 @@ use lib.Ieee.{Float, nan}
 use lib.Ieee.Scale.{finite}
 use lib.ListN.{length, get_or}
 use Rattle.laws.specs.Every.{every, every-cong}
-use Rattle.float32.specs.Scan.{allFinite}
-use Rattle.twists.specs.Twists.{scoreOf, twistAt}
+use Rattle.float32.specs.Scan.{all_finite}
+use Rattle.twists.specs.Twists.{score_of, twist_at}
 use Rattle.twists.specs.Scores.{ScoresIn}
 
 -- what a `&&` of the code answers, once its first test gave t
@@ -25,20 +25,20 @@ every-split m (suc n) f =
     ∙ ap (λ (k : ℕ). every k f) (sym (add-suc m n))
 
 -- whether c0, s0 and the scores of the first places are finite
-abbrev pub finiteAt : Float → Float → ℕ → Bool
-finiteAt c0 s0 count = (finite c0 && finite s0) && every count (λ i. finite (scoreOf c0 s0 (twistAt i)))
+abbrev pub finite_at : Float → Float → ℕ → Bool
+finite_at c0 s0 count = (finite c0 && finite s0) && every count (λ i. finite (score_of c0 s0 (twist_at i)))
 
 -- a turn of a loop that tries the scores of 512 places from m on
 pub finite-block : (c0 s0 : Float) (m : ℕ) (scores : List Float) {now next : Bool} → ScoresIn c0 s0 m scores
-    → now ≡ finiteAt c0 s0 m → next ≡ now && allFinite scores → next ≡ finiteAt c0 s0 (m + 512)
-unfolding allFinite
+    → now ≡ finite_at c0 s0 m → next ≡ now && all_finite scores → next ≡ finite_at c0 s0 (m + 512)
+unfolding all_finite
 finite-block c0 s0 m scores {now} {next} holds before is =
     is
     ∙ (λ i. before i && all i)
     ∙ and_assoc (finite c0 && finite s0) (every m score) (every 512 (λ k. score (m + k)))
     ∙ ap (λ (b : Bool). (finite c0 && finite s0) && b) (every-split m 512 score) where
       score : ℕ → Bool
-      score i = finite (scoreOf c0 s0 (twistAt i))
+      score i = finite (score_of c0 s0 (twist_at i))
 
       all : every (length scores) (λ i. finite (get_or scores i nan)) ≡ every 512 (λ k. score (m + k))
       all = ap (λ (n : ℕ). every n (λ i. finite (get_or scores i nan))) holds.many

@@ -13,17 +13,17 @@ use lib.Ieee.Scale.{finite}
 use Rattle.laws.specs.Conjunction.{both_true}
 use Rattle.laws.specs.Every.{every}
 use Rattle.float32.proofs.Order.{lt-le, not-lt-le, le_refl, le_trans}
-use Rattle.twists.specs.Leaders.{ledOnce, leads}
+use Rattle.twists.specs.Leaders.{led_once, leads}
 use Rattle.twists.specs.declared.leader.Leader.{Leader}
 
 -- ---- one more score
 pub led-changed : (place : ℕ) (score : Float) (b : Leader) → lt b.score score ≡ true
-    → ledOnce place score b ≡ record { place = place; score = score }
-unfolding ledOnce
+    → led_once place score b ≡ record { place = place; score = score }
+unfolding led_once
 led-changed place score b h = ap (λ (t : Bool). cond t (record { place = place; score = score }) b) h
 
-pub led-kept : (place : ℕ) (score : Float) (b : Leader) → lt b.score score ≡ false → ledOnce place score b ≡ b
-unfolding ledOnce
+pub led-kept : (place : ℕ) (score : Float) (b : Leader) → lt b.score score ≡ false → led_once place score b ≡ b
+unfolding led_once
 led-kept place score b h = ap (λ (t : Bool). cond t (record { place = place; score = score }) b) h
 
 -- ---- several scores
@@ -32,7 +32,7 @@ pub leads-cong : (f g : ℕ → Float) (base n : ℕ) (b : Leader) → ((k : ℕ
     → leads f base n b ≡ leads g base n b
 leads-cong f g base zero b h = refl
 leads-cong f g base (suc n) b h =
-    λ i. ledOnce (base + n) (h n (omega arith) i) (leads-cong f g base n b (λ k l. h k (omega arith)) i)
+    λ i. led_once (base + n) (h n (omega arith) i) (leads-cong f g base n b (λ k l. h k (omega arith)) i)
 
 -- the first m places, followed by the n after them
 pub leads-more : (f : ℕ → Float) (base m n : ℕ) (b : Leader)
@@ -40,7 +40,7 @@ pub leads-more : (f : ℕ → Float) (base m n : ℕ) (b : Leader)
 leads-more f base m zero b = ap (λ (k : ℕ). leads f base k b) (add-zero m)
 leads-more f base m (suc n) b =
     ap (λ (k : ℕ). leads f base k b) (add-suc m n)
-    ∙ (λ i. ledOnce (sym (add_assoc base m n) i) (f (m + n)) (leads-more f base m n b i))
+    ∙ (λ i. led_once (sym (add_assoc base m n) i) (f (m + n)) (leads-more f base m n b i))
 
 -- Scores of which none is above the leader's change nothing.
 pub leads-none : (f : ℕ → Float) (base n : ℕ) (b : Leader) → every n (λ k. not (lt b.score (f k))) ≡ true
@@ -48,14 +48,14 @@ pub leads-none : (f : ℕ → Float) (base n : ℕ) (b : Leader) → every n (λ
 leads-none f base zero b h = refl
 leads-none f base (suc n) b h =
     let both = both_true (every n (λ k. not (lt b.score (f k)))) (not (lt b.score (f n))) h in
-    ap (ledOnce (base + n) (f n)) (leads-none f base n b both.0)
+    ap (led_once (base + n) (f n)) (leads-none f base n b both.0)
     ∙ led-kept (base + n) (f n) b (not-true (lt b.score (f n)) both.1)
 
 -- a turn of a loop that tries place i
 pub leads-next : (f : ℕ → Float) (base i : ℕ) (b : Leader) {now next : Leader} → now ≡ leads f base i b
-    → next ≡ ledOnce (base + i) (f i) now → next ≡ leads f base (i + 1) b
+    → next ≡ led_once (base + i) (f i) now → next ≡ leads f base (i + 1) b
 leads-next f base i b before is =
-    is ∙ ap (ledOnce (base + i) (f i)) before ∙ ap (λ (k : ℕ). leads f base k b) (sym (add-one i))
+    is ∙ ap (led_once (base + i) (f i)) before ∙ ap (λ (k : ℕ). leads f base k b) (sym (add-one i))
 
 -- a turn of a loop that tries n places from m on
 pub leads-block : (f g : ℕ → Float) (base m n : ℕ) (b : Leader) {now next : Leader}
@@ -80,13 +80,13 @@ up-to-this f n most before this k h =
     ⊎_elim (λ same. ap (λ (j : ℕ). le (f j) most) same ∙ this) (before k) (eq-or-lt_of_le (le_of_suc-le-suc h))
 
 module _ (f : ℕ → Float) (many : ℕ) (number : (k : ℕ) → k < many → finite (f k) ≡ true) where
-  leading-next : (n : ℕ) (b : Leader) → n < many → Leading f many n b → Leading f many (suc n) (ledOnce (0 + n) (f n) b)
+  leading-next : (n : ℕ) (b : Leader) → n < many → Leading f many n b → Leading f many (suc n) (led_once (0 + n) (f n) b)
   leading-next n b h now = go (lt b.score (f n)) refl
     where
       number-b : finite b.score ≡ true
       number-b = ap finite now.own ∙ number b.place now.within
 
-      go : (t : Bool) → lt b.score (f n) ≡ t → Leading f many (suc n) (ledOnce (0 + n) (f n) b)
+      go : (t : Bool) → lt b.score (f n) ≡ t → Leading f many (suc n) (led_once (0 + n) (f n) b)
       go true l = rw (led-changed (0 + n) (f n) b l) (record {
         within = omega arith;
         own = ap f (sym (zero-add n));

@@ -13,19 +13,19 @@ use lib.ListN.{get_or}
 use Rattle.laws.specs.Blocks.{blocks-cong}
 use Rattle.float32.proofs.Signs.{mul-neg}
 use Rattle.vec3.specs.Points.{plus, times}
-use Rattle.vec3.specs.Turns.{fraction, part_of, inOctant, directionOf, turn_of}
+use Rattle.vec3.specs.Turns.{fraction, part_of, in_octant, direction_of, turn_of}
 use Rattle.vec3.specs.declared.turns.Direction.{Direction}
-use Rattle.twists.specs.Twists.{forward, backwards, signed, twistDirection, scoreOf}
-use Rattle.twists.specs.Eighth.{eighthOf, entry_at}
-use Rattle.twists.specs.Scores.{productSum, product_sums, octantScores}
+use Rattle.twists.specs.Twists.{forward, backwards, signed, twist_direction, score_of}
+use Rattle.twists.specs.Eighth.{eighth_of, entry_at}
+use Rattle.twists.specs.Scores.{product_sum, product_sums, octant_scores}
 
 -- every entry is one of the table's
 pub entry-within : (odd : Bool) (j : ℕ) → j < 512 → entry_at odd j < 513
 entry-within false j h = omega arith
 entry-within true j h = omega arith
 
-abbrev isOdd : ℕ → Bool
-isOdd o = not (eqb (o % 2) 0)
+abbrev is_odd : ℕ → Bool
+is_odd o = not (eqb (o % 2) 0)
 
 -- "y = r/n for even o, (n − r)/n for odd o"
 part-entry : (even : Bool) (j : ℕ)
@@ -36,55 +36,55 @@ part-entry false j =
     ap (λ (r : ℕ). fraction r 4096) e
 
 -- the pair of step j, as it stands in octant o
-abbrev stepPair : ℕ → ℕ → Direction
-stepPair o j = inOctant o (eighthOf (entry_at (isOdd o) j)).cos (eighthOf (entry_at (isOdd o) j)).sin
+abbrev step_pair : ℕ → ℕ → Direction
+step_pair o j = in_octant o (eighth_of (entry_at (is_odd o) j)).cos (eighth_of (entry_at (is_odd o) j)).sin
 
-direction-of-step : (o j : ℕ) → j < 512 → directionOf (512 * o + j) 4096 ≡ stepPair o j
-unfolding directionOf part_of eighthOf
+direction-of-step : (o j : ℕ) → j < 512 → direction_of (512 * o + j) 4096 ≡ step_pair o j
+unfolding direction_of part_of eighth_of
 direction-of-step o j h =
     let octant : 8 * (512 * o + j) / 4096 ≡ o = omega arith in
     let rest : 8 * (512 * o + j) % 4096 ≡ 8 * j = omega arith in
     rw (octant, rest, part-entry (eqb (o % 2) 0) j)
 
-pub turn-of-step : (o j : ℕ) → o < 8 → j < 512 → turn_of (512 * o + j) 4096 ≡ stepPair o j
+pub turn-of-step : (o j : ℕ) → o < 8 → j < 512 → turn_of (512 * o + j) 4096 ≡ step_pair o j
 unfolding turn_of
 turn-of-step o j h l = rw (lt-ltb (512 * o + j) 4096 (omega arith)) (direction-of-step o j l)
 
 -- the score of a direction
-abbrev dotWith : Float → Float → Direction → Float
-dotWith c0 s0 d = plus (times c0 d.cos) (times s0 d.sin)
+abbrev dot_with : Float → Float → Direction → Float
+dot_with c0 s0 d = plus (times c0 d.cos) (times s0 d.sin)
 
 score-of-step : (c0 s0 : Float) (o j : ℕ) → o < 8 → j < 512
-    → scoreOf c0 s0 (forward (512 * o + j)) ≡ dotWith c0 s0 (stepPair o j)
-unfolding scoreOf twistDirection signed
-score-of-step c0 s0 o j h l = ap (dotWith c0 s0) (turn-of-step o j h l)
+    → score_of c0 s0 (forward (512 * o + j)) ≡ dot_with c0 s0 (step_pair o j)
+unfolding score_of twist_direction signed
+score-of-step c0 s0 o j h l = ap (dot_with c0 s0) (turn-of-step o j h l)
 
 -- a backward step turns as far as the forward one, with its sine negated
 pub score-backwards : (c0 s0 : Float) (steps : ℕ)
-    → scoreOf c0 s0 (backwards steps) ≡ scoreOf c0 (neg s0) (forward steps)
-unfolding scoreOf twistDirection signed
+    → score_of c0 s0 (backwards steps) ≡ score_of c0 (neg s0) (forward steps)
+unfolding score_of twist_direction signed
 score-backwards c0 s0 steps =
     let d = turn_of steps 4096 in
     ap (λ (p : Float). plus (times c0 d.cos) p) (sym (mul-neg binary32 s0 d.sin))
 
 -- what a table holds: one of the two numbers of each pair
 abbrev Holds : List Float → (Direction → Float) → Type 0
-Holds xs x = (i : ℕ) → i < 513 → get_or xs i nan ≡ x (eighthOf i)
+Holds xs x = (i : ℕ) → i < 513 → get_or xs i nan ≡ x (eighth_of i)
 
 -- The sums a·x + b·y are the scores of an octant's steps, where for each pair of the table the sum
 -- is the score of the pair in that octant.
 pub octant-sums : (c0 s0 a b : Float) (o : ℕ) (xs ys : List Float) (x y : Direction → Float) → o < 8
     → Holds xs x → Holds ys y
-    → ((d : Direction) → plus (times a (x d)) (times b (y d)) ≡ dotWith c0 s0 (inOctant o d.cos d.sin))
-    → product_sums a b (isOdd o) xs ys ≡ octantScores c0 s0 o
-unfolding product_sums octantScores
+    → ((d : Direction) → plus (times a (x d)) (times b (y d)) ≡ dot_with c0 s0 (in_octant o d.cos d.sin))
+    → product_sums a b (is_odd o) xs ys ≡ octant_scores c0 s0 o
+unfolding product_sums octant_scores
 octant-sums c0 s0 a b o xs ys x y h reads-x reads_y same =
-    blocks-cong 512 (λ j. productSum a b (isOdd o) xs ys j ∷ []) (λ j. scoreOf c0 s0 (forward (512 * o + j)) ∷ [])
+    blocks-cong 512 (λ j. product_sum a b (is_odd o) xs ys j ∷ []) (λ j. score_of c0 s0 (forward (512 * o + j)) ∷ [])
     (λ j l. ap (λ (s : Float). s ∷ []) (score j l)) where
-      score : (j : ℕ) → j < 512 → productSum a b (isOdd o) xs ys j ≡ scoreOf c0 s0 (forward (512 * o + j))
+      score : (j : ℕ) → j < 512 → product_sum a b (is_odd o) xs ys j ≡ score_of c0 s0 (forward (512 * o + j))
       score j l =
-          let e = entry_at (isOdd o) j in
-          let w = entry-within (isOdd o) j l in
+          let e = entry_at (is_odd o) j in
+          let w = entry-within (is_odd o) j l in
           (λ i. plus (times a (reads-x e w i)) (times b (reads_y e w i)))
-          ∙ same (eighthOf e)
+          ∙ same (eighth_of e)
           ∙ sym (score-of-step c0 s0 o j h l)

@@ -6,9 +6,9 @@ use native.Mathlib.Nat.{zero-add}
 use native.Mathlib.Omega.{arith}
 use lib.Ieee.{Float, nan}
 use lib.ListN.{length, get_or, set}
-use Rattle.laws.specs.Overwrite.{overwrite, one_store, getD-within}
+use Rattle.laws.specs.Overwrite.{overwrite, one_store, get_or-within}
 use Rattle.laws.specs.Overlaps.{overwrite-all}
-use Rattle.laws.specs.Blocks.{blocks, length-blocks, getD-blocks, one_more, all-written}
+use Rattle.laws.specs.Blocks.{blocks, length-blocks, get_or-blocks, one_more, all-written}
 
 -- entry k of the table of f, and the list of entries 0 to n - 1
 abbrev entry : (ℕ → Float) → ℕ → List Float
@@ -25,7 +25,7 @@ pub length-table : (f : ℕ → Float) (n : ℕ) → length (table_of f n) ≡ n
 length-table f n = length-blocks 1 n (entry f) (λ k h. refl) ∙ omega arith
 
 pub entry_read : (f : ℕ → Float) (n i : ℕ) → i < n → get_or (table_of f n) i nan ≡ f i
-entry_read f n i h = getD-blocks 1 n (entry f) i 0 i nan (λ k. refl) h (omega arith) (omega arith)
+entry_read f n i h = get_or-blocks 1 n (entry f) i 0 i nan (λ k. refl) h (omega arith) (omega arith)
 
 -- after one more turn of the loop; and after the last, where the list has n entries, or more
 pub one-filled : (f : ℕ → Float) (i : ℕ) (t₀ : List Float) {t : List Float} {v : Float} → t ≡ filled f i t₀
@@ -43,5 +43,5 @@ pub filled-read : (f : ℕ → Float) (n k : ℕ) (t₀ : List Float) {t : List 
 filled-read f n k t₀ before end room h =
     ap (λ (t : List Float). get_or t k nan) (all-written 0 (entry f) t₀ before end)
     ∙ ap (λ (j : ℕ). get_or (filled f n t₀) j nan) (sym (zero-add k))
-    ∙ getD-within 0 (table_of f n) t₀ k nan (omega (arith, length-table f n)) (omega arith)
+    ∙ get_or-within 0 (table_of f n) t₀ k nan (omega (arith, length-table f n)) (omega arith)
     ∙ entry_read f n k h

@@ -5,14 +5,14 @@ use Rattle.std.specs.Float.Ieee.{lt}
 use Rattle.twists.specs.declared.leader.Leader.{Leader}
 
 -- the leader after one more score
-unfoldable pub ledOnce : ℕ → Float → Leader → Leader
-ledOnce place score b = cond (lt b.score score) (record { place = place; score = score }) b
+unfoldable pub led_once : ℕ → Float → Leader → Leader
+led_once place score b = cond (lt b.score score) (record { place = place; score = score }) b
 
 -- after the scores of `count` places from `base` on
 abbrev pub leads : (ℕ → Float) → ℕ → ℕ → Leader → Leader
 leads score base zero b = b
-leads score base (suc count) b = ledOnce (base + count) (score count) (leads score base count b)
+leads score base (suc count) b = led_once (base + count) (score count) (leads score base count b)
 
 -- after the first `count` scores of a list
-abbrev pub ledBy : List Float → ℕ → ℕ → Leader → Leader
-ledBy scores base count b = leads (λ i. get_or scores i nan) base count b
+abbrev pub led_by : List Float → ℕ → ℕ → Leader → Leader
+led_by scores base count b = leads (λ i. get_or scores i nan) base count b

@@ -3,22 +3,22 @@ use Rattle.std.specs.Prelude.{◌≡◌, Bool, List, [], ◌∷◌, ℕ, ◌+◌
 use Rattle.std.specs.Float.{nan}
 use Rattle.laws.specs.Blocks.{blocks}
 use Rattle.vec3.specs.Points.{plus, times}
-use Rattle.twists.specs.Twists.{forward, scoreOf, twistAt}
+use Rattle.twists.specs.Twists.{forward, score_of, twist_at}
 use Rattle.twists.specs.Eighth.{entry_at}
 
 -- a·x + b·y for each step of an octant, x and y being its entries of two tables
-abbrev pub productSum : Float → Float → Bool → List Float → List Float → ℕ → Float
-productSum a b odd xs ys j =
+abbrev pub product_sum : Float → Float → Bool → List Float → List Float → ℕ → Float
+product_sum a b odd xs ys j =
     plus (times a (get_or xs (entry_at odd j) nan)) (times b (get_or ys (entry_at odd j) nan))
 
 unfoldable pub product_sums : Float → Float → Bool → List Float → List Float → List Float
-product_sums a b odd xs ys = blocks 512 (λ j. productSum a b odd xs ys j ∷ [])
+product_sums a b odd xs ys = blocks 512 (λ j. product_sum a b odd xs ys j ∷ [])
 
 -- the scores of the forward steps in an octant of the first half turn
-unfoldable pub octantScores : Float → Float → ℕ → List Float
-octantScores c0 s0 octant = blocks 512 (λ j. scoreOf c0 s0 (forward (512 * octant + j)) ∷ [])
+unfoldable pub octant_scores : Float → Float → ℕ → List Float
+octant_scores c0 s0 octant = blocks 512 (λ j. score_of c0 s0 (forward (512 * octant + j)) ∷ [])
 
 -- a list that holds the scores of 512 places from `base` on
 pub record ScoresIn (c0 s0 : Float) (base : ℕ) (scores : List Float) : Type 0 where
   pub many : length scores ≡ 512
-  pub score : (j : ℕ) → j < 512 → get_or scores j nan ≡ scoreOf c0 s0 (twistAt (base + j))
+  pub score : (j : ℕ) → j < 512 → get_or scores j nan ≡ score_of c0 s0 (twist_at (base + j))

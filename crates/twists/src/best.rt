@@ -1,6 +1,6 @@
 ghost use Rattle.std.specs.Prelude.{◌≡◌};
 ghost use Rattle.twists.specs.Eighth.{EighthTable};
-ghost use Rattle.twists.specs.Chosen.{foundFor};
+ghost use Rattle.twists.specs.Chosen.{found_for};
 
 use crate::eighth::{EIGHTH, fill_eighth};
 use crate::leader::{Leader, lead};
@@ -17,7 +17,7 @@ pub struct Found {
 // Tries all twists, 512 at a time, by the tables of an eighth of a turn.
 fn search_by(c0: f32, s0: f32, cos: &[f32], sin: &[f32]) -> Found
     requires { EighthTable cos.now sin.now }
-    ensures { result ≡ foundFor c0 s0 }
+    ensures { result ≡ found_for c0 s0 }
 {
     let none = Twist {
         steps: 0,
@@ -45,7 +45,7 @@ fn search_by(c0: f32, s0: f32, cos: &[f32], sin: &[f32]) -> Found
 // Finds a twist with the greatest score for a frame that came back at the cosine `c0` and the sine
 // `s0` of an angle.
 pub fn search(c0: f32, s0: f32) -> Found
-    ensures { result ≡ foundFor c0 s0 }
+    ensures { result ≡ found_for c0 s0 }
 {
     let mut cos = [0.0f32; EIGHTH];
     let mut sin = [0.0f32; EIGHTH];

@@ -2,7 +2,7 @@ ghost use Rattle.std.specs.Prelude.{◌≡◌, not, ◌+◌, ◌*◌, ◌≤◌,
 ghost use Rattle.std.specs.Float.{nan};
 ghost use Rattle.std.specs.Float.Ieee.{lt};
 ghost use Rattle.laws.specs.Every.{every};
-ghost use Rattle.twists.specs.Leaders.{ledBy};
+ghost use Rattle.twists.specs.Leaders.{led_by};
 
 // The place and the score of the best twist so far.
 #[derive(Clone, Copy)]
@@ -31,7 +31,7 @@ fn is_none_above(scores: &[f32], most: f32) -> bool
 // The leader after the scores of the places from `base` on were tried one by one.
 fn lead_each(start: Leader, base: u16, scores: &[f32]) -> Leader
     requires { base + length scores.now ≤ 4096 }
-    ensures { result ≡ ledBy scores.now base (length scores.now) start }
+    ensures { result ≡ led_by scores.now base (length scores.now) start }
 {
     let mut leader = start;
     let mut i: usize = 0;
@@ -51,7 +51,7 @@ fn lead_each(start: Leader, base: u16, scores: &[f32]) -> Leader
 // nothing, and most blocks are such.
 pub(crate) fn lead(start: Leader, base: u16, scores: &[f32]) -> Leader
     requires { (base + 512 ≤ 4096) × (length scores.now ≡ 512) }
-    ensures { result ≡ ledBy scores.now base (length scores.now) start }
+    ensures { result ≡ led_by scores.now base (length scores.now) start }
 {
     let mut leader = start;
     let mut at: usize = 0;

@@ -1,6 +1,6 @@
 ghost use Rattle.std.specs.Prelude.{◌≡◌, ◌*◌, ◌≤◌, ◌<◌, length};
 ghost use Rattle.twists.specs.Eighth.{EighthTable, entry_at};
-ghost use Rattle.twists.specs.Scores.{ScoresIn, octantScores, product_sums};
+ghost use Rattle.twists.specs.Scores.{ScoresIn, octant_scores, product_sums};
 
 use crate::twist::Twist;
 
@@ -35,7 +35,7 @@ fn fill_sums(a: f32, b: f32, odd: bool, xs: &[f32], ys: &[f32], out: &mut [f32])
 // Writes the scores of the steps in an octant of the first half turn.
 fn fill_octant(c0: f32, s0: f32, octant: u16, cos: &[f32], sin: &[f32], out: &mut [f32])
     requires { (octant < 4) × EighthTable cos.now sin.now × (length out.old ≡ 512) }
-    ensures { out.new ≡ octantScores c0 s0 octant }
+    ensures { out.new ≡ octant_scores c0 s0 octant }
 {
     match octant {
         0 => fill_sums(c0, s0, false, cos, sin, out),

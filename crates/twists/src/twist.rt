@@ -1,5 +1,5 @@
 ghost use Rattle.std.specs.Prelude.{◌≡◌};
-ghost use Rattle.twists.specs.Twists.{signed, share_of, scoreOf, twistAt, twistedFrame};
+ghost use Rattle.twists.specs.Twists.{signed, share_of, score_of, twist_at, twisted_frame};
 
 use vec3::{Direction, Frame, Point, turn};
 
@@ -25,7 +25,7 @@ fn signed(backward: bool, d: Direction) -> Direction
 
 // The twist that the search tries at place `i` of 4,096: 0 to 2048, then −1 to −2047.
 pub(crate) fn twist_at(i: u16) -> Twist
-    ensures { result ≡ twistAt i }
+    ensures { result ≡ twist_at i }
 {
     if i <= 2048 {
         return Twist {
@@ -43,7 +43,7 @@ impl Twist {
     // The score of the twist: how far it turns the first frame towards the last, which came back
     // at the cosine `c0` and the sine `s0` of an angle.
     pub(crate) fn score(self, c0: f32, s0: f32) -> f32
-        ensures { result ≡ scoreOf c0 s0 self }
+        ensures { result ≡ score_of c0 s0 self }
     {
         let d = signed(self.backward, turn(self.steps as u32, 4096));
         c0 * d.cos + s0 * d.sin
@@ -61,7 +61,7 @@ impl Twist {
 // The frame of a segment along `u`, turned about it by a share of the twist. A share of no turn
 // gives the axis across `u` and the frame.
 pub fn twisted(frame: Frame, u: Point, share: Direction) -> Frame
-    ensures { result ≡ twistedFrame frame u share }
+    ensures { result ≡ twisted_frame frame u share }
 {
     let ex = frame.ex;
     Frame {

@@ -2,7 +2,7 @@
 -- Definitions only.
 use Rattle.std.specs.Prelude.{List, [], ◌∷◌, Float}
 use Rattle.vec3.specs.declared.points.Point.{Point}
-use Rattle.float32.specs.Root.{rootOf}
+use Rattle.float32.specs.Root.{root_of}
 use Rattle.std.specs.Float.Ieee as Ieee
 use Rattle.std.specs.Float.{binary32}
 
@@ -31,21 +31,21 @@ coordinates p = p.x ∷ p.y ∷ p.z ∷ []
 unfoldable pub sum_of : Point → Point → Point
 sum_of a b = record { x = plus a.x b.x; y = plus a.y b.y; z = plus a.z b.z }
 
-unfoldable pub differenceOf : Point → Point → Point
-differenceOf a b = record { x = less a.x b.x; y = less a.y b.y; z = less a.z b.z }
+unfoldable pub difference_of : Point → Point → Point
+difference_of a b = record { x = less a.x b.x; y = less a.y b.y; z = less a.z b.z }
 
 unfoldable pub scaled : Point → Float → Point
 scaled a k = record { x = times a.x k; y = times a.y k; z = times a.z k }
 
-unfoldable pub productOf : Point → Point → Point
-productOf a b = record { x = times a.x b.x; y = times a.y b.y; z = times a.z b.z }
+unfoldable pub product_of : Point → Point → Point
+product_of a b = record { x = times a.x b.x; y = times a.y b.y; z = times a.z b.z }
 
 unfoldable pub quotient_of : Point → Float → Point
 quotient_of a k = record { x = over a.x k; y = over a.y k; z = over a.z k }
 
 -- "Dot is x·x' + y·y' + z·z', left to right."
-unfoldable pub dotOf : Point → Point → Float
-dotOf a b = plus (plus (times a.x b.x) (times a.y b.y)) (times a.z b.z)
+unfoldable pub dot_of : Point → Point → Float
+dot_of a b = plus (plus (times a.x b.x) (times a.y b.y)) (times a.z b.z)
 
 -- "Cross is (y·z' − z·y', z·x' − x·z', x·y' − y·x')."
 unfoldable pub cross_of : Point → Point → Point
@@ -56,8 +56,8 @@ cross_of a b = record {
 }
 
 -- "Norm is the root of the dot with itself; normalising divides each component by the norm."
-unfoldable pub normOf : Point → Float
-normOf a = rootOf (dotOf a a)
+unfoldable pub norm_of : Point → Float
+norm_of a = root_of (dot_of a a)
 
 unfoldable pub normalised : Point → Point
-normalised a = quotient_of a (normOf a)
+normalised a = quotient_of a (norm_of a)

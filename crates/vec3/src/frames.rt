@@ -1,5 +1,5 @@
 ghost use Rattle.std.specs.Prelude.{◌≡◌};
-ghost use Rattle.vec3.specs.Frames.{perpendicularTo, frameBeside, firstFrame, transported};
+ghost use Rattle.vec3.specs.Frames.{perpendicular_to, frame_beside, first_frame, transported};
 
 use crate::points::Point;
 
@@ -11,7 +11,7 @@ pub struct Frame {
 
 // A triple whose dot with u is zero, and that is not near zero itself where u has the norm 1.
 fn perpendicular(u: Point) -> Point
-    ensures { result ≡ perpendicularTo u }
+    ensures { result ≡ perpendicular_to u }
 {
     let a = Point {
         x: u.z,
@@ -31,14 +31,14 @@ fn perpendicular(u: Point) -> Point
 impl Frame {
     // v is the difference of the first segment's ends.
     pub fn first(v: Point) -> Frame
-        ensures { result ≡ firstFrame v }
+        ensures { result ≡ first_frame v }
     {
         Frame::beside(v.normalize())
     }
 
     // The same, of that difference normalised.
     pub fn beside(u: Point) -> Frame
-        ensures { result ≡ frameBeside u }
+        ensures { result ≡ frame_beside u }
     {
         Frame {
             ex: perpendicular(u).normalize(),

@@ -1,6 +1,6 @@
 ghost use Rattle.std.specs.Prelude.{◌≡◌};
-ghost use Rattle.vec3.specs.Points.{thrice, sum_of, differenceOf, scaled, productOf, quotient_of};
-ghost use Rattle.vec3.specs.Points.{dotOf, cross_of, normOf, normalised};
+ghost use Rattle.vec3.specs.Points.{thrice, sum_of, difference_of, scaled, product_of, quotient_of};
+ghost use Rattle.vec3.specs.Points.{dot_of, cross_of, norm_of, normalised};
 
 // A vertex, a segment's direction or a frame's axis.
 #[derive(Clone, Copy)]
@@ -29,7 +29,7 @@ impl Point {
     }
 
     pub fn sub(self, b: Point) -> Point
-        ensures { result ≡ differenceOf self b }
+        ensures { result ≡ difference_of self b }
     {
         Point {
             x: self.x - b.x,
@@ -49,7 +49,7 @@ impl Point {
     }
 
     pub fn product(self, b: Point) -> Point
-        ensures { result ≡ productOf self b }
+        ensures { result ≡ product_of self b }
     {
         Point {
             x: self.x * b.x,
@@ -69,7 +69,7 @@ impl Point {
     }
 
     pub fn dot(self, b: Point) -> f32
-        ensures { result ≡ dotOf self b }
+        ensures { result ≡ dot_of self b }
     {
         self.x * b.x + self.y * b.y + self.z * b.z
     }
@@ -85,7 +85,7 @@ impl Point {
     }
 
     pub fn norm(self) -> f32
-        ensures { result ≡ normOf self }
+        ensures { result ≡ norm_of self }
     {
         float32::root(self.dot(self))
     }

@@ -1,5 +1,5 @@
 ghost use Rattle.std.specs.Prelude.{◌≡◌, ◌<◌, ◌≤◌};
-ghost use Rattle.vec3.specs.Turns.{part_of, sineOf, cosineOf, withinOctant, inOctant, directionOf, turn_of};
+ghost use Rattle.vec3.specs.Turns.{part_of, sine_of, cosine_of, within_octant, in_octant, direction_of, turn_of};
 
 // The cosine and the sine of an angle.
 #[derive(Clone, Copy)]
@@ -20,20 +20,20 @@ fn part(o: u32, r: u32, n: u32) -> f32
 }
 
 fn sine(a: f32, z: f32) -> f32
-    ensures { result ≡ sineOf a z }
+    ensures { result ≡ sine_of a z }
 {
     a * (1.0 + z * (-1.0 / 6.0 + z * (1.0 / 120.0 + z * (-1.0 / 5040.0 + z * (1.0 / 362880.0)))))
 }
 
 fn cosine(z: f32) -> f32
-    ensures { result ≡ cosineOf z }
+    ensures { result ≡ cosine_of z }
 {
     1.0 + z * (-1.0 / 2.0 + z * (1.0 / 24.0 + z * (-1.0 / 720.0 + z * (1.0 / 40320.0))))
 }
 
 // The cosine and the sine of an angle in the first octant, `y` of an eighth of a turn.
 pub fn within_octant(y: f32) -> Direction
-    ensures { result ≡ withinOctant y }
+    ensures { result ≡ within_octant y }
 {
     let a = y * 0.785398163;
     let z = a * a;
@@ -45,7 +45,7 @@ pub fn within_octant(y: f32) -> Direction
 
 fn in_octant(o: u32, c: f32, s: f32) -> Direction
     requires { o < 8 }
-    ensures { result ≡ inOctant o c s }
+    ensures { result ≡ in_octant o c s }
 {
     match o {
         0 => Direction { cos: c, sin: s },
@@ -61,7 +61,7 @@ fn in_octant(o: u32, c: f32, s: f32) -> Direction
 
 fn direction_of(k: u32, n: u32) -> Direction
     requires { (k < n) × (n ≤ 16777216) }
-    ensures { result ≡ directionOf k n }
+    ensures { result ≡ direction_of k n }
 {
     let o = 8 * k / n;
     let d = within_octant(part(o, 8 * k % n, n));

@@ -3,19 +3,19 @@
 use Rattle.std.proofs.Common.{◌≡◌, ℕ, ◌+◌, ◌*◌, ◌^◌, ◌≤◌, Bool, true, ◌&&◌, sym, ◌∙◌, arith, leb, leb-true}
 use Rattle.laws.specs.Conjunction.{both_true}
 use Rattle.surface.specs.Limits.{fits}
-use Rattle.kinds.specs.Kinds.{permitted, vertexCount, triangleCount, writable}
+use Rattle.kinds.specs.Kinds.{permitted, vertex_count, triangle_count, writable}
 use Rattle.kinds.specs.declared.topology.Topology.{Topology}
 use Rattle.worked_lists.proofs.fill_list.Goals as goal
 
 has_room : (t : Topology) (first room : ℕ) {n : ℕ} {r : Bool}
-    → r ≡ writable t first room → r ≡ true → n ≡ triangleCount t → 3 * n ≤ room
+    → r ≡ writable t first room → r ≡ true → n ≡ triangle_count t → 3 * n ≤ room
 unfolding writable fits
 has_room t first room answer written count =
-    let numbered = leb (first + vertexCount t) (2 ^ 28) in
-    let few = leb (triangleCount t) (2 ^ 28) in
-    let held = leb (3 * triangleCount t) room in
+    let numbered = leb (first + vertex_count t) (2 ^ 28) in
+    let few = leb (triangle_count t) (2 ^ 28) in
+    let held = leb (3 * triangle_count t) room in
     let placed = (both_true (permitted t) (numbered && (few && held)) (sym answer ∙ written)).1 in
-    rw count (leb-true (3 * triangleCount t) room (both_true few held (both_true numbered (few && held) placed).1).1)
+    rw count (leb-true (3 * triangle_count t) room (both_true few held (both_true numbered (few && held) placed).1).1)
 
 pub returns-then-write_triangles : goal.returns-then-write_triangles
 returns-then-write_triangles c =

@@ -7,9 +7,9 @@ use Prim.Native.Nat.{ℕ, ◌%◌}
 use lib.Ieee.{Float}
 use lib.ListN.{length}
 use Rattle.surface.specs.Limits.{fits}
-use Rattle.kinds.specs.Kinds.{vertexCount}
+use Rattle.kinds.specs.Kinds.{vertex_count}
 use Rattle.kinds.specs.declared.topology.Topology.{Topology}
-use Rattle.curve.specs.Segments.{verticesIn}
+use Rattle.curve.specs.Segments.{vertices_in}
 use Rattle.answers.specs.Answers.{accepted}
 use Rattle.descriptions.specs.Refusals.{shape_of}
 use Rattle.descriptions.specs.declared.description.Description.{Description}
@@ -19,7 +19,7 @@ use Rattle.bodies.proofs.vertices.write_vertices.Goals as goal
 
 -- of an accepted body of `count` vertices, the room decides
 decided : (d : Description) (c : List Float) (room : ℕ) {body : Topology} {count : ℕ} {r : Bool} → length c % 3 ≡ 0
-    → accepted body ≡ shape_of d (verticesIn c) → count ≡ vertexCount body → r ≡ fits count room → r ≡ drawable d c room
+    → accepted body ≡ shape_of d (vertices_in c) → count ≡ vertex_count body → r ≡ fits count room → r ≡ drawable d c room
 decided d c room whole shape is tested = room-decides d c room whole shape (tested ∙ ap (λ (k : ℕ). fits k room) is)
 
 pub returns-then-curve-ne0-clause-answer : goal.returns-then-curve-ne0-clause-answer

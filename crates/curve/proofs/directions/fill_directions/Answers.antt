@@ -3,8 +3,8 @@ use Rattle.std.proofs.Common.{◌≡◌, refl, sym, ap, arith, length-set}
 use Rattle.laws.specs.Overwrite.{overwrite-none, three-stores}
 use Rattle.laws.specs.Blocks.{one_more, all-written}
 use Rattle.vec3.specs.Points.{coordinates}
-use Rattle.curve.specs.Segments.{directionsOf}
-use Rattle.curve.proofs.directions.fill_directions.Invariants.{directionAt}
+use Rattle.curve.specs.Segments.{directions_of}
+use Rattle.curve.proofs.directions.fill_directions.Invariants.{direction_at}
 use Rattle.curve.proofs.directions.fill_directions.Goals as goal
 
 pub loop-k-init : goal.loop-k-init
@@ -15,7 +15,7 @@ loop-k-preserved c =
     let l = c.loop-k in
     let a = c.args in
     let d = c.direction-d.result in
-    let f = directionAt a.chain a.count a.curve.now in (
+    let f = direction_at a.chain a.count a.curve.now in (
       one_more 0 l.k 3 f a.out.now (λ k h. refl) l.invariant.0 (omega arith)
           (three-stores l.at d.x d.y d.z l.out) (ap coordinates c.direction-d.ensures),
       omega arith,
@@ -24,9 +24,9 @@ loop-k-preserved c =
     )
 
 pub returns : goal.returns
-unfolding directionsOf
+unfolding directions_of
 returns c =
     let l = c.loop-k in
     let a = c.args in
     let all : l.k ≡ a.count = omega arith in
-    all-written 0 (directionAt a.chain a.count a.curve.now) a.out.now l.invariant.0 all
+    all-written 0 (direction_at a.chain a.count a.curve.now) a.out.now l.invariant.0 all

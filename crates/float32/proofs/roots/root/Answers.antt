@@ -5,16 +5,16 @@ use lib.Dec.{T}
 use lib.Ieee.{Float, nan, binary32, of_bits, to_bits}
 use lib.Ieee.Bits.{of_bits-to_bits}
 use lib.Ieee.Compare.{differs_from_itself}
-use Rattle.float32.specs.Root.{rootOf}
+use Rattle.float32.specs.Root.{root_of}
 use Rattle.float32.proofs.NanPatterns.{no_nan}
 use Rattle.float32.proofs.roots.root.Goals as goal
 use Rattle.float32.proofs.roots.root.Goals.{Start}
 
-own : (c : Start) → rootOf (of_bits binary32 (to_bits binary32 c.args.x)) ≡ rootOf c.args.x
-own c = ap rootOf (of_bits-to_bits binary32 c.args.x (subst T (sym c.well_formed.0.1) tt))
+own : (c : Start) → root_of (of_bits binary32 (to_bits binary32 c.args.x)) ≡ root_of c.args.x
+own c = ap root_of (of_bits-to_bits binary32 c.args.x (subst T (sym c.well_formed.0.1) tt))
 
-own-nan : (x : Float) → x ≡ nan → x ≡ rootOf x
-unfolding rootOf
+own-nan : (x : Float) → x ≡ nan → x ≡ root_of x
+unfolding root_of
 own-nan x e = rw e
 
 pub returns-then-x : goal.returns-then-x

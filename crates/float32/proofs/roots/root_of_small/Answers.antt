@@ -6,7 +6,7 @@ use native.Mathlib.Nat.{mod-eq_of_lt, pos_of_ne-zero}
 use native.Mathlib.Omega.{arith}
 use lib.Count.{count_leading_zeros}
 use lib.Ieee.{binary32, of_bits}
-use Rattle.float32.specs.Root.{rootOf}
+use Rattle.float32.specs.Root.{root_of}
 use Rattle.float32.proofs.NanPatterns.{number-bits}
 use Rattle.float32.proofs.Patterns.{small-value}
 use Rattle.float32.proofs.Shift.{Shifted, shifted}
@@ -14,7 +14,7 @@ use Rattle.float32.proofs.roots.root_of_small.Goals as goal
 use Rattle.float32.proofs.roots.root_of_small.Goals.{Else-b-eq0}
 
 pub returns-then-b-eq0 : goal.returns-then-b-eq0
-unfolding rootOf of_bits
+unfolding root_of of_bits
 returns-then-b-eq0 c = rw c.if-b-eq0.true
 
 -- shifted up by so many places it has 24 digits

@@ -9,10 +9,10 @@ use borrow.Author.Rules.{part_to_end}
 use lib.ListN.{length, drop, length-drop}
 use Rattle.laws.specs.Overwrite.{length-overwrite}
 use Rattle.set_table.specs.Room.{Lengths, lengths}
-use Rattle.set_table.specs.Buffers.{Buffers, buffers, lengthsOf}
+use Rattle.set_table.specs.Buffers.{Buffers, buffers, lengths_of}
 use Rattle.ledger.specs.Calls.{additions}
-use Rattle.records.specs.Records.{beginsWithRecord, recordWords, firstAddition}
-use Rattle.records.specs.Built.{repliesIn, numbersOf}
+use Rattle.records.specs.Records.{begins_with_record, record_words, first_addition}
+use Rattle.records.specs.Built.{replies_in, numbers_of}
 use Rattle.records.proofs.Additions.{whole, record-length, is-record, no_record}
 use Rattle.records.proofs.Progress.{Progress, begun, next, all_left, all-answered}
 use Rattle.records.proofs.building.add_all.Invariants.{records, start}
@@ -29,7 +29,7 @@ abbrev held : At-loop-words → Buffers
 held l = buffers l.loop.table l.loop.vertices l.loop.triangles
 
 -- a turn finds a record, which lies in what remains
-begins : (c : In-loop-words) → beginsWithRecord (remaining c.before) ≡ true
+begins : (c : In-loop-words) → begins_with_record (remaining c.before) ≡ true
 begins c = is-record (remaining c.before) (λ none. c.loop-words-test.true (c.loop-words.invariant.1 ∙ none))
 
 further : (c : In-loop-words) → let l = c.loop-words in (7 ≤ l.words) × (l.at + l.words ≤ length (records c.before))
@@ -47,12 +47,12 @@ abbrev left : After-add_first-reply → Buffers
 left f = buffers f.add-first.new.1.0 f.add-first.new.1.1.0 f.add-first.new.1.1.1.0
 
 adds : (f : After-add_first-reply) → let l = (turn f).before in
-    record { answers = repliesIn f.add-first.result; left = left f } ≡ additions (firstAddition (remaining l)) (held l)
+    record { answers = replies_in f.add-first.result; left = left f } ≡ additions (first_addition (remaining l)) (held l)
 adds f =
     let l = (turn f).before in
-    f.add-first.ensures ∙ ap (λ (words : List ℕ). additions (firstAddition words) (held l)) (part_to_end (records l) l.loop.at)
+    f.add-first.ensures ∙ ap (λ (words : List ℕ). additions (first_addition words) (held l)) (part_to_end (records l) l.loop.at)
 
-kept : (f : After-add_first-reply) → lengthsOf (left f) ≡ lengthsOf (held (turn f).before)
+kept : (f : After-add_first-reply) → lengths_of (left f) ≡ lengths_of (held (turn f).before)
 kept f =
     let l = (turn f).before.loop in
     let table : length f.add-first.new.1.0 ≡ length l.table = search rules in
@@ -89,13 +89,13 @@ loop-words-preserved c =
     let s = start l in (
       next (records l) s.args.answers.now (lent s) f.add-first.result
           l.loop.inv.0 (begins (turn f)) l.loop.inv.1 (adds f) (kept f) p.ensures.0 p.ensures.1,
-      c.record_words-words-in-loop-words.ensures ∙ ap recordWords (part_to_end (records l) (l.loop.at + l.loop.words)),
+      c.record_words-words-in-loop-words.ensures ∙ ap record_words (part_to_end (records l) (l.loop.at + l.loop.words)),
     )
 
 pub shape_of-answers : goal.shape_of-answers
 shape_of-answers c =
     let p = c.loop-words.invariant.0 in
-    ap length p.written ∙ length-overwrite 0 (numbersOf p.done) (start (goal.at.shape_of-answers c).At-loop-words).args.answers.now
+    ap length p.written ∙ length-overwrite 0 (numbers_of p.done) (start (goal.at.shape_of-answers c).At-loop-words).args.answers.now
 
 pub shape_of-table : goal.shape_of-table
 shape_of-table c = ap (λ (n : Lengths). n.table) c.loop-words.invariant.0.sized

@@ -9,10 +9,10 @@ use borrow.Author.Rules.{part_to_end}
 use lib.ListN.{length, drop, length-drop}
 use Rattle.laws.specs.Overwrite.{length-overwrite}
 use Rattle.set_table.specs.Room.{Lengths, lengths}
-use Rattle.set_table.specs.Buffers.{Buffers, buffers, lengthsOf}
+use Rattle.set_table.specs.Buffers.{Buffers, buffers, lengths_of}
 use Rattle.ledger.specs.Calls.{additions}
-use Rattle.records.specs.Records.{beginsWithRecord, recordWords, firstAddition}
-use Rattle.records.specs.Built.{repliesIn, numbersOf}
+use Rattle.records.specs.Records.{begins_with_record, record_words, first_addition}
+use Rattle.records.specs.Built.{replies_in, numbers_of}
 use Rattle.records.proofs.Additions.{whole, record-length, is-record, no_record}
 use Rattle.records.proofs.Progress.{Progress, begun, next, all_left, all-answered}
 use Rattle.records.proofs.building.add_all.Given as goal
@@ -20,7 +20,7 @@ use Rattle.records.proofs.building.add_all.Given as goal
 abbrev pub invariant-loop-words : goal.invariant-loop-words
 invariant-loop-words l =
     Progress l.records l.initial.answers (buffers l.initial.table l.initial.vertices l.initial.triangles) l.answers (buffers l.table l.vertices l.triangles) l.at l.i
-    × (l.words ≡ recordWords (drop l.at l.records))
+    × (l.words ≡ record_words (drop l.at l.records))
 
 abbrev pub decreases-loop-words : goal.decreases-loop-words
 decreases-loop-words l =

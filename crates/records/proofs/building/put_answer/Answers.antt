@@ -7,7 +7,7 @@ use native.Mathlib.Omega.{arith}
 use borrow.Author.Rules.{rules}
 use lib.ListN.{length}
 use Rattle.laws.specs.Overwrite.{overwrite, length-overwrite, overwrite-none, overwrite-past, one_store}
-use Rattle.answers.specs.Answers.{number_in, outcomeAnswer}
+use Rattle.answers.specs.Answers.{number_in, outcome_answer}
 use Rattle.records.proofs.building.put_answer.Goals as goal
 use Rattle.records.proofs.building.put_answer.Goals.{In-Answered, Joined-i-answers, Start}
 
@@ -18,7 +18,7 @@ abbrev written : In-Answered → ℕ → List ℕ
 written k number = overwrite (start k).args.i (number ∷ []) (start k).args.answers.now
 
 abbrev answer : In-Answered → ℕ
-answer k = number_in (outcomeAnswer k.before.reply.given.0.0)
+answer k = number_in (outcome_answer k.before.reply.given.0.0)
 
 stored : (c : Joined-i-answers) → c.if-i-answers.answers ≡ written c.before (answer c.before)
 stored c =

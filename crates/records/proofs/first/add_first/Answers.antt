@@ -16,7 +16,7 @@ use Rattle.set_table.specs.Buffers.{Buffers, buffers}
 use Rattle.shared_set.specs.Additions.{taken}
 use Rattle.shared_set.specs.Set.{After, added}
 use Rattle.ledger.specs.Calls.{Call, Called, answered, additions}
-use Rattle.records.specs.Records.{beginsWithRecord, verticesNamed, curveIn, additionOf, firstAddition}
+use Rattle.records.specs.Records.{begins_with_record, vertices_named, curve_in, addition_of, first_addition}
 use Rattle.records.proofs.Additions.{Whole, whole, record-length, is-record, no_record, first-addition, no-addition}
 use Rattle.records.proofs.first.add_first.Goals as goal
 use Rattle.records.proofs.first.add_first.Goals.{After-record_words-end, Else-end-eq0, In-Known, Start}
@@ -34,13 +34,13 @@ held s = buffers s.args.table.now s.args.vertices.now s.args.triangles.now
 abbrev read : Else-end-eq0 → List ℕ
 read e = words (start e.before)
 
-begins : (e : Else-end-eq0) → beginsWithRecord (read e) ≡ true
+begins : (e : Else-end-eq0) → begins_with_record (read e) ≡ true
 begins e = is-record (read e) (λ none. e.if1.false (e.before.record-words.ensures ∙ none))
 
 there : (e : Else-end-eq0) → Whole (read e)
 there e = whole (read e) (begins e)
 
-long : (e : Else-end-eq0) → e.before.record-words.result ≡ 7 + 3 * verticesNamed (read e)
+long : (e : Else-end-eq0) → e.before.record-words.result ≡ 7 + 3 * vertices_named (read e)
 long e = e.before.record-words.ensures ∙ record-length (read e) (begins e)
 
 -- its coordinates lie between its head and its end
@@ -50,7 +50,7 @@ from e = omega (arith, long e)
 to : (e : Else-end-eq0) → e.before.record-words.result ≤ length (read e)
 to e = omega (arith, long e, (there e).coordinates)
 
-between : (e : Else-end-eq0) → e.before.record-words.result - 7 ≡ 3 * verticesNamed (read e)
+between : (e : Else-end-eq0) → e.before.record-words.result - 7 ≡ 3 * vertices_named (read e)
 between e = omega (arith, long e)
 
 -- a record of a kind that is known, and what it asks for
@@ -61,14 +61,14 @@ abbrev description : In-Known → Description
 description k = k.before.description.given.0.0
 
 curve : (k : In-Known) → let w = read (found k) in
-    map (of_bits binary32) (take ((found k).before.record-words.result - 7) (drop 7 w)) ≡ curveIn w
+    map (of_bits binary32) (take ((found k).before.record-words.result - 7) (drop 7 w)) ≡ curve_in w
 curve k = ap (λ (n : ℕ). map (of_bits binary32) (take n (drop 7 (read (found k))))) (between (found k))
 
-asked : (k : In-Known) → let w = read (found k) in additionOf (Known (description k)) (curveIn w) ≡ firstAddition w
+asked : (k : In-Known) → let w = read (found k) in addition_of (Known (description k)) (curve_in w) ≡ first_addition w
 asked k =
     let w = read (found k) in
     let known = sym k.before.description.given.1 ∙ k.before.before.before.describe.ensures in
-    ap (λ (d : Described). additionOf d (curveIn w)) known ∙ sym (first-addition w (begins (found k)))
+    ap (λ (d : Described). addition_of d (curve_in w)) known ∙ sym (first-addition w (begins (found k)))
 
 -- what one call leaves, as a list of calls
 abbrev once : After → Called
@@ -98,7 +98,7 @@ returns-in-Unknown c =
     let w = read e in
     let unknown = sym c.in-Unknown.is ∙ c.describe.ensures in
     ap (λ (list : List Call). additions list (held (start e.before)))
-    (ap (λ (d : Described). additionOf d (curveIn w)) unknown ∙ sym (first-addition w (begins e)))
+    (ap (λ (d : Described). addition_of d (curve_in w)) unknown ∙ sym (first-addition w (begins e)))
 
 pub returns-in-Known : goal.returns-in-Known
 returns-in-Known c =

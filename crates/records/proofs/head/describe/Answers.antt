@@ -4,7 +4,7 @@ use mathlib.Core.Bool.{not}
 use borrow.Author.Rules.{rules}
 use lib.Dec.{eqb}
 use lib.ListN.{get_or}
-use Rattle.descriptions.specs.KindNumbers.{describedOf}
+use Rattle.descriptions.specs.KindNumbers.{described_of}
 use Rattle.records.proofs.head.describe.Goals as goal
 
 pub returns : goal.returns
@@ -13,4 +13,4 @@ returns c =
     let size = c.from_word.ensures in
     let length = c.from_word-2.ensures in
     c.of_kind.ensures
-    ∙ (λ j. describedOf (get_or words 0 0) (get_or words 1 0) (get_or words 2 0) (not (eqb (get_or words 3 0) 0)) (size j) (length j))
+    ∙ (λ j. described_of (get_or words 0 0) (get_or words 1 0) (get_or words 2 0) (not (eqb (get_or words 3 0) 0)) (size j) (length j))

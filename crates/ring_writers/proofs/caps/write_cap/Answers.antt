@@ -6,10 +6,10 @@ use lib.ListN.{length}
 use Rattle.laws.specs.Overwrite.{overwrite-none}
 use Rattle.laws.specs.Blocks.{one_more, all-written}
 use Rattle.laws.specs.Products.{next_row, row_within}
-use Rattle.rings.specs.Vertices.{capVertex}
+use Rattle.rings.specs.Vertices.{cap_vertex}
 use Rattle.rings.proofs.RingVertices.{cap-ring}
 use Rattle.ring_writers.proofs.Lengths.{length-ring}
-use Rattle.ring_writers.proofs.caps.write_cap.Invariants.{ringAt}
+use Rattle.ring_writers.proofs.caps.write_cap.Invariants.{ring_at}
 use Rattle.ring_writers.proofs.caps.write_cap.Goals as goal
 use Rattle.ring_writers.proofs.caps.write_cap.Goals.{In-loop-j}
 
@@ -35,9 +35,9 @@ pub loop-j-preserved : goal.loop-j-preserved
 loop-j-preserved c =
     let l = c.loop-j in
     let a = c.args in
-    let f = ringAt a.end a.axes a.radius a.longitudes a.n in (
+    let f = ring_at a.end a.axes a.radius a.longitudes a.n in (
       one_more 0 l.j (a.n * 3) f a.out.now
-          (λ k h. length-ring (capVertex a.end a.axes a.radius a.longitudes k) a.n) l.invariant.0
+          (λ k h. length-ring (cap_vertex a.end a.axes a.radius a.longitudes k) a.n) l.invariant.0
           (omega arith) c.write_ring.ensures
           (cap-ring a.end a.axes a.radius a.longitudes l.j a.n c.cap_ring.ensures),
       omega (arith, next_row l.j (a.n * 3)),
@@ -50,4 +50,4 @@ returns c =
     let o = c.loop-j in
     let a = c.args in
     let e : o.j ≡ a.longitudes = omega arith in
-    all-written 0 (ringAt a.end a.axes a.radius a.longitudes a.n) a.out.now o.invariant.0 e
+    all-written 0 (ring_at a.end a.axes a.radius a.longitudes a.n) a.out.now o.invariant.0 e

@@ -7,17 +7,17 @@ use lib.ListN.{length}
 use Rattle.laws.specs.Overwrite.{overwrite}
 use Rattle.laws.specs.Blocks.{blocks}
 use Rattle.surface.specs.declared.caps.End.{End}
-use Rattle.rings.specs.Vertices.{ringOf, capVertex}
+use Rattle.rings.specs.Vertices.{ring_of, cap_vertex}
 use Rattle.rings.specs.declared.axes.Axes.{Axes}
 use Rattle.ring_writers.proofs.caps.write_cap.Given as goal
 
 -- ring j of the cap
-abbrev pub ringAt : End → Axes → Float → ℕ → ℕ → ℕ → List Float
-ringAt end a r L n j = ringOf (capVertex end a r L j) n
+abbrev pub ring_at : End → Axes → Float → ℕ → ℕ → ℕ → List Float
+ring_at end a r L n j = ring_of (cap_vertex end a r L j) n
 
 abbrev pub invariant-loop-j : goal.invariant-loop-j
 invariant-loop-j l =
-    (l.out ≡ overwrite 0 (blocks l.j (ringAt l.end l.axes l.radius l.longitudes l.n)) l.initial.out) × (l.place ≡ l.j * (l.n * 3))
+    (l.out ≡ overwrite 0 (blocks l.j (ring_at l.end l.axes l.radius l.longitudes l.n)) l.initial.out) × (l.place ≡ l.j * (l.n * 3))
     × (l.j ≤ l.longitudes) × (length l.out ≡ length l.initial.out)
 
 abbrev pub decreases-loop-j : goal.decreases-loop-j

@@ -3,9 +3,9 @@ use mathlib.Core.Path.{refl, sym, ap, ◌∙◌}
 use native.Mathlib.Omega.{arith}
 use Rattle.laws.specs.Overwrite.{overwrite-none}
 use Rattle.laws.specs.Blocks.{some_more}
-use Rattle.rings.specs.Vertices.{vertexOn}
-use Rattle.rings.specs.Rings.{inOrder, ringVertex, fourOf}
-use Rattle.ring_writers.specs.Tables.{fourCoordinates}
+use Rattle.rings.specs.Vertices.{vertex_on}
+use Rattle.rings.specs.Rings.{in_order, ring_vertex, four_of}
+use Rattle.ring_writers.specs.Tables.{four_coordinates}
 use Rattle.ring_writers.proofs.Tables.{four-vertices}
 use Rattle.ring_writers.proofs.ring_writer.write_fours.Goals as goal
 
@@ -16,11 +16,11 @@ pub loop-i-preserved : goal.loop-i-preserved
 loop-i-preserved c =
     let l = c.loop-i in
     let a = c.args in
-    let vertex = inOrder a.ring.order a.ring in
-    let made = c.four-q.ensures ∙ (λ j. fourOf vertex (c.four_at.ensures j) (c.four_at-in-loop-i.ensures j)) in (
-      some_more a.at l.i 4 3 (vertexOn (ringVertex a.ring) a.n) a.out.now (λ k h. refl) l.invariant.0
+    let vertex = in_order a.ring.order a.ring in
+    let made = c.four-q.ensures ∙ (λ j. four_of vertex (c.four_at.ensures j) (c.four_at-in-loop-i.ensures j)) in (
+      some_more a.at l.i 4 3 (vertex_on (ring_vertex a.ring) a.n) a.out.now (λ k h. refl) l.invariant.0
           l.invariant.1 c.put_four.ensures
-          (ap fourCoordinates made ∙ four-vertices a.ring a.n c.requires.turned l.i c.loop-i-test.true
+          (ap four_coordinates made ∙ four-vertices a.ring a.n c.requires.turned l.i c.loop-i-test.true
           l.invariant.2),
       omega arith,
       omega arith,

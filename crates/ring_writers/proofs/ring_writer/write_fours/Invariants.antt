@@ -4,13 +4,13 @@ use Prim.Native.Nat.{◌+◌, ◌*◌, ◌-◌, ◌≤◌}
 use lib.ListN.{length}
 use Rattle.laws.specs.Overwrite.{overwrite}
 use Rattle.laws.specs.Blocks.{blocks}
-use Rattle.rings.specs.Vertices.{vertexOn}
-use Rattle.rings.specs.Rings.{ringVertex}
+use Rattle.rings.specs.Vertices.{vertex_on}
+use Rattle.rings.specs.Rings.{ring_vertex}
 use Rattle.ring_writers.proofs.ring_writer.write_fours.Given as goal
 
 abbrev pub invariant-loop-i : goal.invariant-loop-i
 invariant-loop-i l =
-    (l.out ≡ overwrite l.at (blocks l.i (vertexOn (ringVertex l.ring) l.n)) l.initial.out) × (l.place ≡ l.at + l.i * 3) × (l.k ≡ l.i * 3) × (l.i ≤ l.n)
+    (l.out ≡ overwrite l.at (blocks l.i (vertex_on (ring_vertex l.ring) l.n)) l.initial.out) × (l.place ≡ l.at + l.i * 3) × (l.k ≡ l.i * 3) × (l.i ≤ l.n)
     × (length l.out ≡ length l.initial.out)
 
 abbrev pub decreases-loop-i : goal.decreases-loop-i

@@ -4,7 +4,7 @@ use native.Mathlib.Omega.{arith}
 use Rattle.laws.specs.Overwrite.{overwrite-none}
 use Rattle.laws.specs.Blocks.{one_more, all-written}
 use Rattle.vec3.specs.Points.{coordinates}
-use Rattle.rings.specs.Vertices.{vertexOn, levelAt}
+use Rattle.rings.specs.Vertices.{vertex_on, level_at}
 use Rattle.ring_writers.proofs.Tables.{direction-at}
 use Rattle.ring_writers.proofs.ring_writer.write_level.Goals as goal
 
@@ -15,9 +15,9 @@ pub loop-i-preserved : goal.loop-i-preserved
 loop-i-preserved c =
     let l = c.loop-i in
     let a = c.args in (
-      one_more a.at l.i 3 (vertexOn (levelAt a.radius a.y) a.n) a.out.now (λ k h. refl) l.invariant.0
+      one_more a.at l.i 3 (vertex_on (level_at a.radius a.y) a.n) a.out.now (λ k h. refl) l.invariant.0
           (omega arith) c.put_point.ensures
-          (ap coordinates (c.level.ensures ∙ ap (levelAt a.radius a.y)
+          (ap coordinates (c.level.ensures ∙ ap (level_at a.radius a.y)
           (direction-at a.n c.requires.turned l.i c.loop-i-test.true l.invariant.1))),
       omega arith,
       omega arith,
@@ -29,4 +29,4 @@ returns c =
     let o = c.loop-i in
     let a = c.args in
     let e : o.i ≡ a.n = omega arith in
-    all-written a.at (vertexOn (levelAt a.radius a.y) a.n) a.out.now o.invariant.0 e
+    all-written a.at (vertex_on (level_at a.radius a.y) a.n) a.out.now o.invariant.0 e

@@ -4,12 +4,12 @@ use Prim.Native.Nat.{◌*◌, ◌-◌, ◌≤◌}
 use lib.ListN.{length}
 use Rattle.laws.specs.Overwrite.{overwrite}
 use Rattle.laws.specs.Blocks.{blocks}
-use Rattle.rings.specs.Vertices.{vertexOn, levelAt}
+use Rattle.rings.specs.Vertices.{vertex_on, level_at}
 use Rattle.ring_writers.proofs.ring_writer.write_level.Given as goal
 
 abbrev pub invariant-loop-i : goal.invariant-loop-i
 invariant-loop-i l =
-    (l.out ≡ overwrite l.at (blocks l.i (vertexOn (levelAt l.radius l.y) l.n)) l.initial.out) × (l.k ≡ l.i * 3) × (l.i ≤ l.n)
+    (l.out ≡ overwrite l.at (blocks l.i (vertex_on (level_at l.radius l.y) l.n)) l.initial.out) × (l.k ≡ l.i * 3) × (l.i ≤ l.n)
     × (length l.out ≡ length l.initial.out)
 
 abbrev pub decreases-loop-i : goal.decreases-loop-i

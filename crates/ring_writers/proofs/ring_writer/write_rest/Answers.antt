@@ -5,8 +5,8 @@ use native.Mathlib.Omega.{arith}
 use Rattle.laws.specs.Overwrite.{overwrite, overwrite-none}
 use Rattle.laws.specs.Blocks.{blocks, one_more, all-written}
 use Rattle.vec3.specs.Points.{coordinates}
-use Rattle.rings.specs.Vertices.{vertexOn}
-use Rattle.rings.specs.Rings.{inOrder, ringVertex}
+use Rattle.rings.specs.Vertices.{vertex_on}
+use Rattle.rings.specs.Rings.{in_order, ring_vertex}
 use Rattle.ring_writers.proofs.Tables.{vertex-at}
 use Rattle.ring_writers.proofs.ring_writer.write_rest.Invariants.{later}
 use Rattle.ring_writers.proofs.ring_writer.write_rest.Goals as goal
@@ -30,13 +30,13 @@ loop-i-preserved c =
     let here : l.i ≡ a.from + (l.i - a.from) = omega arith in
     let next : l.i - a.from + 1 ≡ l.i + 1 - a.from = omega arith in
     let made = c.vertex-p.ensures
-    ∙ (λ j. inOrder a.ring.order a.ring (c.point.ensures j) (c.point-in-loop-i.ensures j)) in (
+    ∙ (λ j. in_order a.ring.order a.ring (c.point.ensures j) (c.point-in-loop-i.ensures j)) in (
       all-written (a.at + a.from * 3) (later a.ring a.from a.n) a.out.now
           (one_more (a.at + a.from * 3) (l.i - a.from) 3 (later a.ring a.from a.n) a.out.now
           (λ k h. refl) l.invariant.0 (omega arith)
           c.put_point.ensures
           (ap coordinates (made ∙ vertex-at a.ring a.n c.requires.turned l.i c.loop-i-test.true l.invariant.1
-          (omega arith)) ∙ ap (vertexOn (ringVertex a.ring) a.n) here))
+          (omega arith)) ∙ ap (vertex_on (ring_vertex a.ring) a.n) here))
           next,
       omega arith,
       omega arith,

@@ -6,14 +6,14 @@ use lib.Ieee.{Float}
 use lib.ListN.{length}
 use Rattle.laws.specs.Overwrite.{overwrite}
 use Rattle.laws.specs.Blocks.{blocks}
-use Rattle.rings.specs.Vertices.{vertexOn}
-use Rattle.rings.specs.Rings.{ringVertex}
+use Rattle.rings.specs.Vertices.{vertex_on}
+use Rattle.rings.specs.Rings.{ring_vertex}
 use Rattle.rings.specs.declared.ring.Ring.{Ring}
 use Rattle.ring_writers.proofs.ring_writer.write_rest.Given as goal
 
 -- vertex j after the first ones
 abbrev pub later : Ring → ℕ → ℕ → ℕ → List Float
-later ring from n j = vertexOn (ringVertex ring) n (from + j)
+later ring from n j = vertex_on (ring_vertex ring) n (from + j)
 
 abbrev pub invariant-loop-i : goal.invariant-loop-i
 invariant-loop-i l =

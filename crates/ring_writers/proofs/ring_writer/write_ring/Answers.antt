@@ -3,8 +3,8 @@ use mathlib.Core.Path.{◌≡◌, refl}
 use Prim.Native.Nat.{◌+◌, ◌-◌}
 use native.Mathlib.Omega.{arith}
 use Rattle.laws.specs.Blocks.{some_more, all-written}
-use Rattle.rings.specs.Vertices.{vertexOn}
-use Rattle.rings.specs.Rings.{ringVertex}
+use Rattle.rings.specs.Vertices.{vertex_on}
+use Rattle.rings.specs.Rings.{ring_vertex}
 use Rattle.ring_writers.proofs.ring_writer.write_ring.Goals as goal
 
 pub returns : goal.returns
@@ -12,7 +12,7 @@ returns c =
     let a = c.args in
     let fours = c.write_fours-written in
     let done = fours.result in
-    let vertex = vertexOn (ringVertex a.ring) a.n in
+    let vertex = vertex_on (ring_vertex a.ring) a.n in
     let all : done + (a.n - done) ≡ a.n = omega (arith, fours.ensures.within) in
     all-written a.at vertex a.out.now
     (some_more a.at done (a.n - done) 3 vertex a.out.now (λ k h. refl) fours.ensures.written refl

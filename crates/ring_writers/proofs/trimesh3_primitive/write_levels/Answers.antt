@@ -7,9 +7,9 @@ use Rattle.laws.specs.Overwrite.{overwrite-none}
 use Rattle.laws.specs.Blocks.{one_more, all-written}
 use Rattle.laws.specs.Products.{next_row, row_within}
 use Rattle.vec3.specs.Turns.{whole}
-use Rattle.rings.specs.Vertices.{levelVertex}
+use Rattle.rings.specs.Vertices.{level_vertex}
 use Rattle.ring_writers.proofs.Lengths.{length-ring}
-use Rattle.ring_writers.proofs.trimesh3_primitive.write_levels.Invariants.{ringAt}
+use Rattle.ring_writers.proofs.trimesh3_primitive.write_levels.Invariants.{ring_at}
 use Rattle.ring_writers.proofs.trimesh3_primitive.write_levels.Goals as goal
 use Rattle.ring_writers.proofs.trimesh3_primitive.write_levels.Goals.{In-loop-g}
 
@@ -31,9 +31,9 @@ unfolding whole
 loop-g-preserved c =
     let l = c.loop-g in
     let a = c.args in
-    let f = ringAt a.radius a.low a.height a.layers a.n in (
+    let f = ring_at a.radius a.low a.height a.layers a.n in (
       one_more 0 l.g (a.n * 3) f a.out.now
-          (λ k h. length-ring (levelVertex a.radius a.low a.height a.layers k) a.n) l.invariant.0
+          (λ k h. length-ring (level_vertex a.radius a.low a.height a.layers k) a.n) l.invariant.0
           (omega arith) c.write_level.ensures refl,
       omega (arith, next_row l.g (a.n * 3)),
       omega arith,
@@ -45,4 +45,4 @@ returns c =
     let o = c.loop-g in
     let a = c.args in
     let e : o.g ≡ a.layers + 1 = omega arith in
-    all-written 0 (ringAt a.radius a.low a.height a.layers a.n) a.out.now o.invariant.0 e
+    all-written 0 (ring_at a.radius a.low a.height a.layers a.n) a.out.now o.invariant.0 e

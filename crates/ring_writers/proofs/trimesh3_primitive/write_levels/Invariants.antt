@@ -6,16 +6,16 @@ use lib.Ieee.{Float}
 use lib.ListN.{length}
 use Rattle.laws.specs.Overwrite.{overwrite}
 use Rattle.laws.specs.Blocks.{blocks}
-use Rattle.rings.specs.Vertices.{ringOf, levelVertex}
+use Rattle.rings.specs.Vertices.{ring_of, level_vertex}
 use Rattle.ring_writers.proofs.trimesh3_primitive.write_levels.Given as goal
 
 -- ring g
-abbrev pub ringAt : Float → Float → Float → ℕ → ℕ → ℕ → List Float
-ringAt r low height S n g = ringOf (levelVertex r low height S g) n
+abbrev pub ring_at : Float → Float → Float → ℕ → ℕ → ℕ → List Float
+ring_at r low height S n g = ring_of (level_vertex r low height S g) n
 
 abbrev pub invariant-loop-g : goal.invariant-loop-g
 invariant-loop-g l =
-    (l.out ≡ overwrite 0 (blocks l.g (ringAt l.radius l.low l.height l.layers l.n)) l.initial.out) × (l.place ≡ l.g * (l.n * 3)) × (l.g ≤ l.layers + 1)
+    (l.out ≡ overwrite 0 (blocks l.g (ring_at l.radius l.low l.height l.layers l.n)) l.initial.out) × (l.place ≡ l.g * (l.n * 3)) × (l.g ≤ l.layers + 1)
     × (length l.out ≡ length l.initial.out)
 
 abbrev pub decreases-loop-g : goal.decreases-loop-g

@@ -11,7 +11,7 @@ use Rattle.laws.specs.Overlaps.{overwrite-swap}
 use Rattle.laws.specs.Blocks.{blocks, one_more, length-blocks}
 use Rattle.vec3.specs.Points.{coordinates, thrice}
 use Rattle.vec3.specs.declared.turns.Direction.{Direction}
-use Rattle.curve.specs.Segments.{pointAt}
+use Rattle.curve.specs.Segments.{point_at}
 use Rattle.ring_writers.proofs.Tables.{table-point}
 use Rattle.ring_writers.proofs.turns.fill_turns.Invariants.{cosine, filled, sine}
 use Rattle.ring_writers.proofs.turns.fill_turns.Goals as goal
@@ -63,10 +63,10 @@ returns c =
     record {
       most = c.requires.most;
       room = omega arith;
-      cosine = λ k h. ap (λ (t : List Float). pointAt t (k * 3))
+      cosine = λ k h. ap (λ (t : List Float). point_at t (k * 3))
           (is ∙ overwrite-swap 0 768 cosines sines t₀ (omega arith))
           ∙ table-point 0 n (cosine n) (overwrite 768 sines t₀) k (omega (arith, length-overwrite 768 sines t₀)) h
           (omega arith);
-      sine = λ k h. ap (λ (t : List Float). pointAt t (768 + k * 3)) is
+      sine = λ k h. ap (λ (t : List Float). point_at t (768 + k * 3)) is
           ∙ table-point 768 n (sine n) (overwrite 0 cosines t₀) k (omega arith) h refl;
     }

@@ -5,17 +5,17 @@ use Prim.Native.Nat.{◌+◌, ◌*◌, ◌-◌}
 use native.Mathlib.Omega.{arith}
 use Rattle.laws.specs.Overwrite.{overwrite-none}
 use Rattle.laws.specs.Blocks.{one_more, all-written, first-and-others}
-use Rattle.curve.specs.Segments.{pointAt}
-use Rattle.curve.specs.Framex.{carriedOn}
-use Rattle.swept_bodies.specs.Tables.{carriedIn}
-use Rattle.swept_bodies.proofs.Axes.{carried_on}
-use Rattle.seamless_torus.proofs.frames.fill_frames.Invariants.{coordinatesOf, frame_at, laterFrame}
+use Rattle.curve.specs.Segments.{point_at}
+use Rattle.curve.specs.Framex.{carried_on}
+use Rattle.swept_bodies.specs.Tables.{carried_in}
+use Rattle.swept_bodies.proofs.Axes.{carried_on-next}
+use Rattle.seamless_torus.proofs.frames.fill_frames.Invariants.{coordinates_of, frame_at, later_frame}
 use Rattle.seamless_torus.proofs.frames.fill_frames.Goals as goal
 use Rattle.seamless_torus.proofs.frames.fill_frames.Goals.{After-first-carried}
 
 -- what is carried begins on the first segment
-on-first : (f : After-first-carried) → f.first-carried.result ≡ carriedIn f.args.directions.now 0
-on-first f = f.first-carried.ensures ∙ ap carriedOn f.point.ensures
+on-first : (f : After-first-carried) → f.first-carried.result ≡ carried_in f.args.directions.now 0
+on-first f = f.first-carried.ensures ∙ ap carried_on f.point.ensures
 
 pub loop-g-init : goal.loop-g-init
 loop-g-init c = (
@@ -32,15 +32,15 @@ loop-g-preserved c =
     let l = c.loop-g in
     let dirs = c.args.directions.now in
     let before = c.put_point.new.out in
-    let f = laterFrame dirs in
+    let f = later_frame dirs in
     let here : l.g - 1 + 1 ≡ l.g = omega arith in
     let next : l.g ≡ l.g + 1 - 1 = omega arith in
     let place : l.k ≡ 3 + (l.g - 1) * 3 = omega arith in
-    let along = c.point-in-loop-g.ensures ∙ ap (pointAt dirs) l.invariant.2 in
-    let on = carried_on dirs l.g l.invariant.3 l.invariant.1 along c.next-carried.ensures in (
+    let along = c.point-in-loop-g.ensures ∙ ap (point_at dirs) l.invariant.2 in
+    let on = carried_on-next dirs l.g l.invariant.3 l.invariant.1 along c.next-carried.ensures in (
       all-written 3 f before (one_more 3 (l.g - 1) 3 f before (λ k h. refl) l.invariant.0 place
-          c.put_point-in-loop-g.ensures (ap coordinatesOf on ∙ ap (frame_at dirs) (sym here))) (here ∙ next),
-      on ∙ ap (carriedIn dirs) next,
+          c.put_point-in-loop-g.ensures (ap coordinates_of on ∙ ap (frame_at dirs) (sym here))) (here ∙ next),
+      on ∙ ap (carried_in dirs) next,
       omega arith,
       omega arith,
       omega arith,
@@ -54,9 +54,9 @@ returns c =
     let dirs = a.directions.now in
     let e : o.g - 1 ≡ a.count - 1 = omega arith in
     record {
-      carried = o.invariant.1 ∙ ap (carriedIn dirs) e;
+      carried = o.invariant.1 ∙ ap (carried_in dirs) e;
       written =
           first-and-others a.count 3 (frame_at dirs) a.frames.now c.requires.segment refl c.put_point.ensures
-          (ap coordinatesOf (on-first (goal.at.returns c).After-first-carried))
-          (all-written 3 (laterFrame dirs) c.put_point.new.out o.invariant.0 e);
+          (ap coordinates_of (on-first (goal.at.returns c).After-first-carried))
+          (all-written 3 (later_frame dirs) c.put_point.new.out o.invariant.0 e);
     }

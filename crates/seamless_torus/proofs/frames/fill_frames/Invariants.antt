@@ -9,24 +9,24 @@ use Rattle.laws.specs.Overwrite.{overwrite}
 use Rattle.laws.specs.Blocks.{blocks}
 use Rattle.vec3.specs.Points.{coordinates}
 use Rattle.curve.specs.declared.framex.Carried.{Carried}
-use Rattle.swept_bodies.specs.Tables.{carriedIn}
+use Rattle.swept_bodies.specs.Tables.{carried_in}
 use Rattle.seamless_torus.proofs.frames.fill_frames.Given as goal
 
 -- the coordinates of a frame that is carried
-abbrev pub coordinatesOf : Carried → List Float
-coordinatesOf b = coordinates b.frame.ex
+abbrev pub coordinates_of : Carried → List Float
+coordinates_of b = coordinates b.frame.ex
 
 -- those of the frame on segment g, and of the frame on the segment after segment k
 abbrev pub frame_at : List Float → ℕ → List Float
-frame_at directions g = coordinatesOf (carriedIn directions g)
+frame_at directions g = coordinates_of (carried_in directions g)
 
-abbrev pub laterFrame : List Float → ℕ → List Float
-laterFrame directions k = frame_at directions (k + 1)
+abbrev pub later_frame : List Float → ℕ → List Float
+later_frame directions k = frame_at directions (k + 1)
 
 abbrev pub invariant-loop-g : goal.invariant-loop-g
 invariant-loop-g l =
-    (l.frames ≡ overwrite 3 (blocks (l.g - 1) (laterFrame l.directions)) l.initial.frames)
-    × (l.carried ≡ carriedIn l.directions (l.g - 1))
+    (l.frames ≡ overwrite 3 (blocks (l.g - 1) (later_frame l.directions)) l.initial.frames)
+    × (l.carried ≡ carried_in l.directions (l.g - 1))
     × (l.k ≡ l.g * 3)
     × (1 ≤ l.g)
     × (l.g ≤ l.count)

@@ -8,17 +8,17 @@ use Rattle.laws.specs.Overwrite.{overwrite-none}
 use Rattle.laws.specs.Blocks.{one_more, all-written}
 use Rattle.laws.specs.Products.{next_row, row_within}
 use Rattle.surface.specs.declared.grid.Chain.TheVariants.{Closed}
-use Rattle.curve.specs.Segments.{pointAt, segmentDirection}
-use Rattle.rings.specs.Axes.{axesAt}
-use Rattle.rings.specs.Rings.{ringAt}
-use Rattle.rings.specs.Vertices.{torusVertex}
+use Rattle.curve.specs.Segments.{point_at, segment_direction}
+use Rattle.rings.specs.Axes.{axes_at}
+use Rattle.rings.specs.Rings.{ring_at}
+use Rattle.rings.specs.Vertices.{torus_vertex}
 use Rattle.rings.specs.declared.ring.Order.{Order}
 use Rattle.ring_writers.proofs.Lengths.{length-ring}
-use Rattle.swept_bodies.specs.Polyloop3.{axesOf}
+use Rattle.swept_bodies.specs.Polyloop3.{axes_of}
 use Rattle.swept_bodies.proofs.Parts.{torus-ring}
-use Rattle.twists.specs.Twists.{twistedFrame}
-use Rattle.seamless_torus.specs.Polyloop3.{smoothFrame}
-use Rattle.seamless_torus.proofs.polyloop3.write_rings.Invariants.{ringOn}
+use Rattle.twists.specs.Twists.{twisted_frame}
+use Rattle.seamless_torus.specs.Polyloop3.{smooth_frame}
+use Rattle.seamless_torus.proofs.polyloop3.write_rings.Invariants.{ring_on}
 use Rattle.seamless_torus.proofs.polyloop3.write_rings.Goals as goal
 use Rattle.seamless_torus.proofs.polyloop3.write_rings.Goals.{After-at-axes, In-loop-g}
 
@@ -43,30 +43,30 @@ overflow_add-place c = omega (arith, room (goal.at.overflow_add-place c).In-loop
 
 -- the direction, the frame and the axes of a turn are the loop's at its vertex
 direction-here : (t : After-at-axes)
-    → t.point-ez.result ≡ segmentDirection Closed t.args.sweep.segments t.args.curve.now t.loop-g.g
+    → t.point-ez.result ≡ segment_direction Closed t.args.sweep.segments t.args.curve.now t.loop-g.g
 direction-here t =
     let l = t.loop-g in
-    t.point-ez.ensures ∙ ap (pointAt t.args.directions.now) l.invariant.2
+    t.point-ez.ensures ∙ ap (point_at t.args.directions.now) l.invariant.2
     ∙ t.requires.closed_sweep.table.direction l.g t.loop-g-test.true
 
 frame_here : (t : After-at-axes)
-    → t.twisted-frame.result ≡ smoothFrame t.args.twist t.args.sweep.segments t.args.curve.now t.loop-g.g
-unfolding smoothFrame
+    → t.twisted-frame.result ≡ smooth_frame t.args.twist t.args.sweep.segments t.args.curve.now t.loop-g.g
+unfolding smooth_frame
 frame_here t =
     let l = t.loop-g in
-    let ex = t.point.ensures ∙ ap (pointAt t.args.frames.now) l.invariant.2
+    let ex = t.point.ensures ∙ ap (point_at t.args.frames.now) l.invariant.2
     ∙ t.requires.frame_table.frame l.g t.loop-g-test.true in
     t.twisted-frame.ensures
-    ∙ (λ j. twistedFrame (record { ex = ex j }) (direction-here t j) (t.share.ensures j))
+    ∙ (λ j. twisted_frame (record { ex = ex j }) (direction-here t j) (t.share.ensures j))
 
 axes-here : (t : After-at-axes) →
     let a = t.args in
     let N = a.sweep.segments in
     let g = t.loop-g.g in
-    t.at-axes.result ≡ axesOf N a.curve.now (smoothFrame a.twist N a.curve.now g) g
-unfolding axesOf
+    t.at-axes.result ≡ axes_of N a.curve.now (smooth_frame a.twist N a.curve.now g) g
+unfolding axes_of
 axes-here t =
-    t.at-axes.ensures ∙ (λ j. axesAt (t.vertex.ensures j) (frame_here t j) (direction-here t j))
+    t.at-axes.ensures ∙ (λ j. axes_at (t.vertex.ensures j) (frame_here t j) (direction-here t j))
 
 pub loop-g-preserved : goal.loop-g-preserved
 loop-g-preserved c =
@@ -76,11 +76,11 @@ loop-g-preserved c =
     let n = sweep.divisions in
     let N = sweep.segments in
     let curve = a.curve.now in
-    let frame = smoothFrame a.twist N curve in
+    let frame = smooth_frame a.twist N curve in
     let ring = c.around-ring.ensures
-    ∙ ap (λ (o : Order). ringAt o c.at-axes.result sweep.radius) c.requires.closed_sweep.order in (
-      one_more 0 l.g (n * 3) (ringOn sweep curve a.twist) a.out.now
-          (λ k h. length-ring (torusVertex (axesOf N curve (frame k) k) sweep.radius) n) l.invariant.0 (omega arith)
+    ∙ ap (λ (o : Order). ring_at o c.at-axes.result sweep.radius) c.requires.closed_sweep.order in (
+      one_more 0 l.g (n * 3) (ring_on sweep curve a.twist) a.out.now
+          (λ k h. length-ring (torus_vertex (axes_of N curve (frame k) k) sweep.radius) n) l.invariant.0 (omega arith)
           c.write_ring.ensures
           (torus-ring n sweep.radius N curve (frame l.g) l.g ring
           (axes-here (goal.at.loop-g-preserved c).After-at-axes)),
@@ -95,4 +95,4 @@ returns c =
     let o = c.loop-g in
     let a = c.args in
     let e : o.g ≡ a.sweep.segments = omega arith in
-    all-written 0 (ringOn a.sweep a.curve.now a.twist) a.out.now o.invariant.0 e
+    all-written 0 (ring_on a.sweep a.curve.now a.twist) a.out.now o.invariant.0 e

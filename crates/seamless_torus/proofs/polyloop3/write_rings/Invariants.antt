@@ -9,16 +9,16 @@ use Rattle.laws.specs.Overwrite.{overwrite}
 use Rattle.laws.specs.Blocks.{blocks}
 use Rattle.swept_bodies.specs.declared.swept.Sweep.{Sweep}
 use Rattle.twists.specs.declared.twist.Twist.{Twist}
-use Rattle.seamless_torus.specs.Polyloop3.{seamlessPart}
+use Rattle.seamless_torus.specs.Polyloop3.{seamless_part}
 use Rattle.seamless_torus.proofs.polyloop3.write_rings.Given as goal
 
 -- the ring at vertex g
-abbrev pub ringOn : Sweep → List Float → Twist → ℕ → List Float
-ringOn sweep curve twist = seamlessPart twist sweep.divisions sweep.radius sweep.segments curve
+abbrev pub ring_on : Sweep → List Float → Twist → ℕ → List Float
+ring_on sweep curve twist = seamless_part twist sweep.divisions sweep.radius sweep.segments curve
 
 abbrev pub invariant-loop-g : goal.invariant-loop-g
 invariant-loop-g l =
-    (l.out ≡ overwrite 0 (blocks l.g (ringOn l.sweep l.curve l.twist)) l.initial.out)
+    (l.out ≡ overwrite 0 (blocks l.g (ring_on l.sweep l.curve l.twist)) l.initial.out)
     × (l.place ≡ l.g * (l.sweep.divisions * 3))
     × (l.k ≡ l.g * 3)
     × (l.g ≤ l.sweep.segments)

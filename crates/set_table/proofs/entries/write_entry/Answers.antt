@@ -6,7 +6,7 @@ use native.Mathlib.Numerals.{towards_suc}
 use native.Mathlib.Omega.{arith}
 use lib.ListN.{set, length-set}
 use Rattle.laws.specs.Overwrite.{overwrite, stores, one_store}
-use Rattle.set_table.specs.Entries.{words_of, tableWords}
+use Rattle.set_table.specs.Entries.{words_of, table_words}
 use Rattle.set_table.specs.declared.entries.Entry.{Entry}
 use Rattle.set_table.proofs.entries.write_entry.Goals as goal
 
@@ -38,5 +38,5 @@ pub returns : goal.returns
 returns c =
     let a = c.args in
     let T = a.table.now in
-    let at = tableWords a.bodies in
+    let at = table_words a.bodies in
     ap (λ (t : List ℕ). set t 0 (a.bodies + 1)) (six-stores at a.entry T) ∙ one_store 0 (a.bodies + 1) (overwrite at (words_of a.entry) T)

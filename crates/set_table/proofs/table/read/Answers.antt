@@ -6,22 +6,22 @@ use Prim.Native.Nat.{ℕ, ◌+◌, ◌≤◌, ◌<◌}
 use native.Mathlib.Omega.{arith}
 use lib.ListN.{length}
 use Rattle.surface.specs.Limits.{fits}
-use Rattle.set_table.specs.Entries.{tableWords}
-use Rattle.set_table.specs.Table.{bodiesIn, headSound, reading_of}
-use Rattle.set_table.proofs.Tables.{head-bounds, answered, Summed, summed-next, head-damaged, entry-damaged, summed-read, bothFit}
+use Rattle.set_table.specs.Entries.{table_words}
+use Rattle.set_table.specs.Table.{bodies_in, head_sound, reading_of}
+use Rattle.set_table.proofs.Tables.{head-bounds, answered, Summed, summed-next, head-damaged, entry-damaged, summed-read, both_fit}
 use Rattle.set_table.proofs.table.read.Goals as goal
 use Rattle.set_table.proofs.table.read.Goals.{else-fits-via-then-fits+else-fits-2, else-fits-via-else-fits}
 
 -- a turn's entry stands in the table
-turn : (T : List ℕ) {j : ℕ} → true ≡ headSound T → j < bodiesIn T → (j < 64) × (tableWords (j + 1) ≤ length T)
+turn : (T : List ℕ) {j : ℕ} → true ≡ head_sound T → j < bodies_in T → (j < 64) × (table_words (j + 1) ≤ length T)
 turn T head h = let bounds = head-bounds T (sym head) in (omega arith, omega arith)
 
 -- after the loop all entries are added up, and the tests of the totals answer
-answer : (T : List ℕ) (vertices triangles : ℕ) {j v t : ℕ} {p : Bool} → true ≡ headSound T
-    → bodiesIn T ≤ j → j ≤ bodiesIn T → Summed T j v t → p ≡ bothFit vertices triangles v t
+answer : (T : List ℕ) (vertices triangles : ℕ) {j v t : ℕ} {p : Bool} → true ≡ head_sound T
+    → bodies_in T ≤ j → j ≤ bodies_in T → Summed T j v t → p ≡ both_fit vertices triangles v t
     → answered T p v t ≡ reading_of T vertices triangles
 answer T vertices triangles {j} {v} {t} head past within all is =
-    let last : j ≡ bodiesIn T = omega arith in
+    let last : j ≡ bodies_in T = omega arith in
     summed-read T vertices triangles (sym head) (subst (λ (k : ℕ). Summed T k v t) last all) is
 
 pub returns-then-not-is_head_sound : goal.returns-then-not-is_head_sound
@@ -53,7 +53,7 @@ returns-then-fits-2 c = let a = c.args in
 pub returns : goal.returns
 returns c =
     let a = c.args in
-    let failed : false ≡ bothFit a.vertices a.triangles c.loop-j.v c.loop-j.t =
+    let failed : false ≡ both_fit a.vertices a.triangles c.loop-j.v c.loop-j.t =
     elim c.else-fits.branch [
       | else-fits-via-then-fits+else-fits-2 w ↦ (λ i. w.if-fits.ensures i && w.if-fits-2.ensures i)
       | else-fits-via-else-fits w ↦ (λ i. w.if-fits.ensures i && fits c.loop-j.t a.triangles)

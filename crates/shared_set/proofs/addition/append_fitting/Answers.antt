@@ -6,47 +6,47 @@ use Prim.Native.Nat.{ℕ, ◌*◌}
 use lib.Ieee.{Float}
 use Rattle.laws.specs.Overwrite.{overwrite}
 use Rattle.surface.specs.Triangles.{flatten, shift}
-use Rattle.kinds.specs.Kinds.{vertexCount, triangleCount, trianglesOf}
+use Rattle.kinds.specs.Kinds.{vertex_count, triangle_count, triangles_of}
 use Rattle.kinds.specs.declared.topology.Topology.{Topology}
-use Rattle.curve.specs.Segments.{verticesIn}
+use Rattle.curve.specs.Segments.{vertices_in}
 use Rattle.answers.specs.Answers.{Answer, accepted}
-use Rattle.descriptions.specs.Descriptions.{topologyOf}
-use Rattle.descriptions.specs.KindNumbers.{kindNumber, divisionsOf}
+use Rattle.descriptions.specs.Descriptions.{topology_of}
+use Rattle.descriptions.specs.KindNumbers.{kind_number, divisions_of}
 use Rattle.descriptions.specs.Refusals.{ShapePermitted}
 use Rattle.descriptions.specs.declared.description.Description.{Description}
-use Rattle.set_table.specs.Buffers.{Buffers, buffers, lengthsOf}
-use Rattle.set_table.specs.Table.{withEntry}
+use Rattle.set_table.specs.Buffers.{Buffers, buffers, lengths_of}
+use Rattle.set_table.specs.Table.{with_entry}
 use Rattle.set_table.specs.declared.entries.Entry.{Entry}
 use Rattle.set_table.specs.declared.totals.Totals.{Totals}
 use Rattle.set_table.proofs.Fitting.{fitting}
 use Rattle.shared_set.specs.Additions.{taken}
-use Rattle.shared_set.specs.Bodies.{Body, bodyAlone, entryWith, entry_of}
-use Rattle.shared_set.specs.Set.{after, verticesAfter, afterAnswer}
+use Rattle.shared_set.specs.Bodies.{Body, body_alone, entry_with, entry_of}
+use Rattle.shared_set.specs.Set.{after, vertices_after, after_answer}
 use Rattle.shared_set.proofs.Counts.{vertices-counted, triangles-counted}
 use Rattle.shared_set.proofs.addition.append_fitting.Goals as goal
 
-module _ (t : Totals) (d : Description) (c : List Float) (body : Topology) (shape : ShapePermitted d (verticesIn c))
-    (same : body ≡ topologyOf d (verticesIn c)) where
+module _ (t : Totals) (d : Description) (c : List Float) (body : Topology) (shape : ShapePermitted d (vertices_in c))
+    (same : body ≡ topology_of d (vertices_in c)) where
   abbrev alone : Body
-  alone = bodyAlone (taken d c)
+  alone = body_alone (taken d c)
 
   -- the entry by the body's numbers is that of the body alone
-  entered : entryWith t (kindNumber d) (divisionsOf d) (vertexCount body) (triangleCount body) ≡ entry_of t alone
+  entered : entry_with t (kind_number d) (divisions_of d) (vertex_count body) (triangle_count body) ≡ entry_of t alone
   entered =
-      let vertices = ap vertexCount same ∙ sym (vertices-counted (taken d c) shape) in
-      let triangles = ap triangleCount same ∙ sym (triangles-counted (taken d c) shape) in
-      λ j. entryWith t (kindNumber d) (divisionsOf d) (vertices j) (triangles j)
+      let vertices = ap vertex_count same ∙ sym (vertices-counted (taken d c) shape) in
+      let triangles = ap triangle_count same ∙ sym (triangles-counted (taken d c) shape) in
+      λ j. entry_with t (kind_number d) (divisions_of d) (vertices j) (triangles j)
 
   -- what is left where the body is placed
   placed-body : (s : Buffers) {table : List ℕ} {vertices : List Float} {triangles : List ℕ} {answer : Answer (Unit {0})}
-      → accepted tt ≡ answer → vertices ≡ verticesAfter (accepted tt) t alone s.vertices
-      → table ≡ withEntry t.bodies (entryWith t (kindNumber d) (divisionsOf d) (vertexCount body) (triangleCount body)) s.table
-      → triangles ≡ overwrite (3 * t.triangles) (flatten (shift t.vertices (trianglesOf body))) s.triangles
-      → after (accepted tt) table vertices triangles ≡ afterAnswer t alone s answer
+      → accepted tt ≡ answer → vertices ≡ vertices_after (accepted tt) t alone s.vertices
+      → table ≡ with_entry t.bodies (entry_with t (kind_number d) (divisions_of d) (vertex_count body) (triangle_count body)) s.table
+      → triangles ≡ overwrite (3 * t.triangles) (flatten (shift t.vertices (triangles_of body))) s.triangles
+      → after (accepted tt) table vertices triangles ≡ after_answer t alone s answer
   placed-body s accepts left written listed =
-      let table = written ∙ ap (λ (e : Entry). withEntry t.bodies e s.table) entered in
-      let list = listed ∙ ap (λ (x : Topology). overwrite (3 * t.triangles) (flatten (shift t.vertices (trianglesOf x))) s.triangles) same in
-      (λ j. after (accepted tt) (table j) (left j) (list j)) ∙ ap (afterAnswer t alone s) accepts
+      let table = written ∙ ap (λ (e : Entry). with_entry t.bodies e s.table) entered in
+      let list = listed ∙ ap (λ (x : Topology). overwrite (3 * t.triangles) (flatten (shift t.vertices (triangles_of x))) s.triangles) same in
+      (λ j. after (accepted tt) (table j) (left j) (list j)) ∙ ap (after_answer t alone s) accepts
 
 pub draw-requires-clause-few_vertices : goal.draw-requires-clause-few_vertices
 draw-requires-clause-few_vertices c = (fitting _ _ _ _ c.requires.room).vertices.0

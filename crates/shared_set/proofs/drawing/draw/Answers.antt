@@ -10,48 +10,48 @@ use lib.ListN.{length}
 use Rattle.laws.specs.Parts.{part}
 use Rattle.laws.specs.Overwrite.{overwrite, placed}
 use Rattle.laws.specs.Lent.{lent-from}
-use Rattle.float32.specs.Scan.{allFinite}
+use Rattle.float32.specs.Scan.{all_finite}
 use Rattle.float32.specs.Zeros.{zeros}
-use Rattle.kinds.specs.Kinds.{vertexCount}
+use Rattle.kinds.specs.Kinds.{vertex_count}
 use Rattle.kinds.specs.declared.topology.Topology.{Topology}
-use Rattle.curve.specs.Segments.{verticesIn}
+use Rattle.curve.specs.Segments.{vertices_in}
 use Rattle.answers.specs.Answers.{Answer, refused, accepted}
-use Rattle.descriptions.specs.Descriptions.{topologyOf}
-use Rattle.descriptions.specs.Refusals.{ShapePermitted, curveFoldsPermitted}
+use Rattle.descriptions.specs.Descriptions.{topology_of}
+use Rattle.descriptions.specs.Refusals.{ShapePermitted, curve_folds_permitted}
 use Rattle.descriptions.specs.declared.description.Description.{Description}
-use Rattle.bodies.specs.Bodies.{verticesOf, floatsFinite, twistTaken, drawnOf}
+use Rattle.bodies.specs.Bodies.{vertices_of, floats_finite, twist_taken, drawn_of}
 use Rattle.shared_set.proofs.Drawn.{scanned, scan-leaves}
 use Rattle.shared_set.proofs.drawing.draw.Goals as goal
 
 -- The buffer after the body was written to the front of what is lent, from `first` on, and after
 -- the scan.
-module _ (d : Description) (c : List Float) (body : Topology) (first : ℕ) (old : List Float) (shape : ShapePermitted d (verticesIn c))
-    (same : body ≡ topologyOf d (verticesIn c)) (room : 3 * (first + vertexCount body) ≤ length old) {lent : List Float}
-    (written : lent ≡ placed true (drawnOf d c) (part (3 * first) (length old - 3 * first) old)) where
+module _ (d : Description) (c : List Float) (body : Topology) (first : ℕ) (old : List Float) (shape : ShapePermitted d (vertices_in c))
+    (same : body ≡ topology_of d (vertices_in c)) (room : 3 * (first + vertex_count body) ≤ length old) {lent : List Float}
+    (written : lent ≡ placed true (drawn_of d c) (part (3 * first) (length old - 3 * first) old)) where
   abbrev drawn : List Float
   drawn = put_mid (3 * first) (length old - 3 * first) old lent
 
   -- it holds what is written of the body
-  holds : drawn ≡ overwrite (3 * first) (drawnOf d c) old
-  holds = lent-from (3 * first) (drawnOf d c) old written
+  holds : drawn ≡ overwrite (3 * first) (drawn_of d c) old
+  holds = lent-from (3 * first) (drawn_of d c) old written
 
   -- what the scan answers, and what it leaves
   abbrev stretch : List Float → List Float
-  stretch l = part (3 * first) (3 * vertexCount body) l
+  stretch l = part (3 * first) (3 * vertex_count body) l
 
-  fine : {finite : Bool} → finite ≡ allFinite (stretch drawn) → finite ≡ floatsFinite (twistTaken d c) d c
-  fine is = scanned d c body first old shape same room (is ∙ ap (λ (l : List Float). allFinite (stretch l)) holds)
+  fine : {finite : Bool} → finite ≡ all_finite (stretch drawn) → finite ≡ floats_finite (twist_taken d c) d c
+  fine is = scanned d c body first old shape same room (is ∙ ap (λ (l : List Float). all_finite (stretch l)) holds)
 
-  answered : {folds finite : Bool} → folds ≡ curveFoldsPermitted d c → finite ≡ allFinite (stretch drawn)
+  answered : {folds finite : Bool} → folds ≡ curve_folds_permitted d c → finite ≡ all_finite (stretch drawn)
       → ◌≡◌ {A = Answer (Unit {0})}
       (cond folds (cond finite (accepted tt) (refused 23)) (refused 13))
-      (cond (curveFoldsPermitted d c) (cond (floatsFinite (twistTaken d c) d c) (accepted tt) (refused 23)) (refused 13))
+      (cond (curve_folds_permitted d c) (cond (floats_finite (twist_taken d c) d c) (accepted tt) (refused 23)) (refused 13))
   answered folded is = λ j. cond (folded j) (cond (fine is j) (accepted tt) (refused 23)) (refused 13)
 
   abbrev alone : List Float
-  alone = verticesOf (twistTaken d c) d c
+  alone = vertices_of (twist_taken d c) d c
 
-  leaves : (finite : Bool) {left : List Float} → finite ≡ allFinite (stretch drawn)
+  leaves : (finite : Bool) {left : List Float} → finite ≡ all_finite (stretch drawn)
       → left ≡ overwrite (3 * first) (cond finite (stretch drawn) (zeros (length (stretch drawn)))) drawn
       → left ≡ overwrite (3 * first) (cond finite alone (zeros (length alone))) old
   leaves finite is e =

@@ -11,7 +11,7 @@ use Rattle.laws.specs.Overwrite.{overwrite}
 use Rattle.laws.specs.Lent.{lent-part}
 use Rattle.float32.specs.Zeros.{zeros}
 use Rattle.float32.proofs.ZeroCounts.{length-zeros}
-use Rattle.kinds.specs.Kinds.{vertexCount}
+use Rattle.kinds.specs.Kinds.{vertex_count}
 use Rattle.shared_set.proofs.drawing.zero_unless_finite.Goals as goal
 
 -- the stretch holds what it held
@@ -33,9 +33,9 @@ zeroed at size {k} old is h e =
 pub returns-then-are_finite-clause-vertices_after : goal.returns-then-are_finite-clause-vertices_after
 returns-then-are_finite-clause-vertices_after c =
     let a = c.args in
-    kept (3 * a.first) (3 * vertexCount a.body) a.vertices.now (omega arith)
+    kept (3 * a.first) (3 * vertex_count a.body) a.vertices.now (omega arith)
 
 pub returns-clause-vertices_after : goal.returns-clause-vertices_after
 returns-clause-vertices_after c =
     let a = c.args in
-    zeroed (3 * a.first) (3 * vertexCount a.body) a.vertices.now (omega (arith, c.vertex_count.ensures)) (omega arith) c.fill_zeros.ensures
+    zeroed (3 * a.first) (3 * vertex_count a.body) a.vertices.now (omega (arith, c.vertex_count.ensures)) (omega arith) c.fill_zeros.ensures

@@ -5,7 +5,7 @@ use borrow.Rule.Slice.PartMut.{put_mid}
 use Rattle.streams.specs.Record.{StopsBefore}
 use Rattle.streams.specs.declared.record.Stop.TheVariants.{Short}
 use Rattle.laws.specs.Overwrite.{placed}
-use Rattle.records.specs.Records.{recordWords}
+use Rattle.records.specs.Records.{record_words}
 use Rattle.little_endian.specs.Words.{words_in}
 use Rattle.streams.proofs.Kept.{front_filled, prepended, prepended_consumes}
 use Rattle.streams.proofs.Records.{read_back, is_whole, is-cut-short}
@@ -50,7 +50,7 @@ returns-in-Full-clause-alone g c =
     let words = front c.args.count old more c.args.words.now a.byte_room a.word_room a.has_head a.fits sized
     c.read_words.ensures.fits c.read_words.ensures.written in
     let whole = is_whole c.args.count (take 28 old) more (length-take-le 28 old (omega arith)) a.named a.has_head sized in
-    (omega arith, search rules, whole ∙ sym (ap recordWords words))
+    (omega arith, search rules, whole ∙ sym (ap record_words words))
 
 pub returns-in-Full-clause-bytes : goal.returns-in-Full-clause-bytes
 returns-in-Full-clause-bytes g c =

@@ -4,7 +4,7 @@ use Rattle.std.specs.Io.KnownBytes.{Consumes}
 use lib.Dec.{leb}
 use lib.Seq.{take-append-le}
 use Rattle.laws.specs.Overwrite.{placed}
-use Rattle.records.specs.Records.{lengthNamed}
+use Rattle.records.specs.Records.{length_named}
 use Rattle.records.proofs.Lengths.{named-bounds}
 use Rattle.little_endian.specs.Words.{words_in}
 use Rattle.streams.specs.Record.{StopsBefore}
@@ -49,7 +49,7 @@ returns-then-count-eq0-clause-bytes g c =
     let head = c.read_full.new.buf in
     let sized : length head ≡ 28 = omega (arith, length-take-le 28 c.args.bytes.now (omega arith)) in
     let words = read head c.args.bytes.now c.args.words.now sized c.requires.word_room c.read_words.ensures.fits c.read_words.ensures.written in
-    let none : lengthNamed (words_in head) ≡ 0 = sym (ap lengthNamed words) ∙ sym c.record_length-count.ensures ∙ c.if-count-eq0.true in
+    let none : length_named (words_in head) ≡ 0 = sym (ap length_named words) ∙ sym c.record_length-count.ensures ∙ c.if-count-eq0.true in
     by_front _ _ head (StopsBefore TooLong) c.in-Full.ensures.bytes (λ more. still_too_many head more sized none)
 
 pub read_curve-requires-clause-fits : goal.read_curve-requires-clause-fits
@@ -61,7 +61,7 @@ read_curve-requires-clause-named g c =
     let old = c.args.bytes.now in
     let sized : length head ≡ 28 = omega (arith, length-take-le 28 old (omega arith)) in
     let words = read head old c.args.words.now sized c.requires.word_room c.read_words.ensures.fits c.read_words.ensures.written in
-    c.record_length-count.ensures ∙ ap lengthNamed (words ∙ ap words_in (sym (in_front head old c.args.words.now sized c.requires.word_room)))
+    c.record_length-count.ensures ∙ ap length_named (words ∙ ap words_in (sym (in_front head old c.args.words.now sized c.requires.word_room)))
 
 pub returns-else-count-eq0-clause-bytes : goal.returns-else-count-eq0-clause-bytes
 returns-else-count-eq0-clause-bytes g c =

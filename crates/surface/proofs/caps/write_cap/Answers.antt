@@ -4,7 +4,7 @@ use native.Mathlib.Omega.{arith}
 use Rattle.laws.specs.Overwrite.{overwrite-none}
 use Rattle.laws.specs.Blocks.{one_more}
 use Rattle.surface.proofs.Flatten.{numbers, blocks-written}
-use Rattle.surface.proofs.Pieces.{cap_at, cap-written, length-capAt}
+use Rattle.surface.proofs.Pieces.{cap_at, cap-written, length-cap_at}
 use Rattle.surface.proofs.caps.write_cap.Goals as goal
 
 pub loop-i-init : goal.loop-i-init
@@ -14,7 +14,7 @@ pub loop-i-preserved : goal.loop-i-preserved
 loop-i-preserved c = let l = c.loop-i in
     let a = c.args in (
       one_more a.at l.i 3 (numbers (cap_at a.end a.n a.pole a.rim)) a.out.now
-          (λ k h. length-capAt a.end a.n a.pole a.rim k) l.invariant.0 l.invariant.1 c.put_triangle.ensures
+          (λ k h. length-cap_at a.end a.n a.pole a.rim k) l.invariant.0 l.invariant.1 c.put_triangle.ensures
           (cap-written a.end a.n a.pole a.rim l.i c.cap_triangle.ensures
           c.after-j.ensures),
       omega arith,

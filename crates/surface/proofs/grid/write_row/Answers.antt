@@ -4,7 +4,7 @@ use native.Mathlib.Omega.{arith}
 use Rattle.laws.specs.Overwrite.{overwrite-none}
 use Rattle.laws.specs.Blocks.{one_more}
 use Rattle.surface.proofs.Flatten.{numbers, blocks-written}
-use Rattle.surface.proofs.Pieces.{quadAt, quad-written, length-quadAt}
+use Rattle.surface.proofs.Pieces.{quad_at, quad-written, length-quad_at}
 use Rattle.surface.proofs.grid.write_row.Goals as goal
 
 pub loop-i-init : goal.loop-i-init
@@ -13,8 +13,8 @@ loop-i-init c = (sym (overwrite-none _ _), omega arith, omega arith, refl)
 pub loop-i-preserved : goal.loop-i-preserved
 loop-i-preserved c = let l = c.loop-i in
     let a = c.args in (
-      one_more a.at l.i 6 (numbers (quadAt a.split a.round a.n a.low a.high)) a.out.now
-          (λ k h. length-quadAt a.split a.round a.n a.low a.high k) l.invariant.0 l.invariant.1 c.put_quad.ensures
+      one_more a.at l.i 6 (numbers (quad_at a.split a.round a.n a.low a.high)) a.out.now
+          (λ k h. length-quad_at a.split a.round a.n a.low a.high k) l.invariant.0 l.invariant.1 c.put_quad.ensures
           (quad-written a.split a.round a.n a.low a.high l.i c.quad-q.ensures
           c.after-j.ensures),
       omega arith,
@@ -25,6 +25,6 @@ loop-i-preserved c = let l = c.loop-i in
 pub returns : goal.returns
 returns c = let o = c.loop-i in
     let a = c.args in
-    let f = quadAt a.split a.round a.n a.low a.high in
+    let f = quad_at a.split a.round a.n a.low a.high in
     let e : o.i ≡ a.n = omega arith in
     blocks-written a.at f a.out.now o.invariant.0 e

@@ -1,5 +1,5 @@
 use Rattle.set_table.specs.Buffers.{buffers}
-use Rattle.sweep.specs.File.{fileWords}
+use Rattle.sweep.specs.File.{file_words}
 use Rattle.sweep.proofs.Filled.{word-told, end-told, none_filled, one-filled, no-word-left, no-room-left}
 use Rattle.sweep.proofs.output.fill_file.Goals as goal
 
@@ -10,7 +10,7 @@ pub returns-in-Refused : goal.returns-in-Refused
 returns-in-Refused c =
     let a = c.args in
     let s = buffers a.table.now a.vertices.now a.triangles.now in
-    let done = no-word-left (fileWords s) a.words.now c.loop-i.invariant (end-told s c.loop-i.i c.in-Refused.ensures) in
+    let done = no-word-left (file_words s) a.words.now c.loop-i.invariant (end-told s c.loop-i.i c.in-Refused.ensures) in
     record { count = done.0; written = done.1 }
 
 pub loop-i-preserved : goal.loop-i-preserved
@@ -18,7 +18,7 @@ loop-i-preserved c =
     let a = c.args in
     let s = buffers a.table.now a.vertices.now a.triangles.now in
     let word = word-told s c.loop-i.i c.in-Word.ensures in
-    one-filled (fileWords s) a.words.now c.loop-i.invariant c.loop-i-test.true word.0 word.1
+    one-filled (file_words s) a.words.now c.loop-i.invariant c.loop-i-test.true word.0 word.1
 
 pub returns : goal.returns
 returns c =

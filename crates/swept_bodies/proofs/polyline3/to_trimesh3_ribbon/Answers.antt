@@ -6,13 +6,13 @@ use native.Mathlib.Omega.{arith}
 use lib.ListN.{length}
 use Rattle.laws.specs.Overwrite.{overwrite-none}
 use Rattle.laws.specs.Blocks.{one_more, all-written, length-blocks, ends-written}
-use Rattle.curve.specs.Segments.{verticesIn, pointAt}
-use Rattle.curve.specs.Framex.{carriedOn}
+use Rattle.curve.specs.Segments.{vertices_in, point_at}
+use Rattle.curve.specs.Framex.{carried_on}
 use Rattle.curve.specs.declared.framex.Carried.{Carried}
-use Rattle.swept_bodies.specs.Tables.{carriedIn}
-use Rattle.swept_bodies.specs.Polyline3.{ribbonPair, ribbonPart}
-use Rattle.swept_bodies.proofs.Axes.{carried_on, frame-within, frame-last}
-use Rattle.swept_bodies.proofs.polyline3.to_trimesh3_ribbon.Invariants.{laterPair}
+use Rattle.swept_bodies.specs.Tables.{carried_in}
+use Rattle.swept_bodies.specs.Polyline3.{ribbon_pair, ribbon_part}
+use Rattle.swept_bodies.proofs.Axes.{carried_on-next, frame-within, frame-last}
+use Rattle.swept_bodies.proofs.polyline3.to_trimesh3_ribbon.Invariants.{later_pair}
 use Rattle.swept_bodies.proofs.polyline3.to_trimesh3_ribbon.Goals as goal
 use Rattle.swept_bodies.proofs.polyline3.to_trimesh3_ribbon.Goals.{In-loop-g}
 
@@ -25,7 +25,7 @@ room c =
 pub loop-g-init : goal.loop-g-init
 loop-g-init c = (
   sym (overwrite-none _ _),
-  c.first-carried.ensures ∙ ap carriedOn c.point.ensures,
+  c.first-carried.ensures ∙ ap carried_on c.point.ensures,
   omega arith,
   omega arith,
   omega arith,
@@ -42,22 +42,22 @@ loop-g-preserved c =
     let a = c.args in
     let curve = a.curve.now in
     let dirs = a.directions.now in
-    let m = verticesIn curve - 1 in
+    let m = vertices_in curve - 1 in
     let has = c.requires.open_curve in
-    let f = laterPair a.width m curve in
+    let f = later_pair a.width m curve in
     let before = c.put_pair.new.out in
     let here : l.g - 1 + 1 ≡ l.g = omega arith in
     let next : l.g ≡ l.g + 1 - 1 = omega arith in
     let place : l.place ≡ 6 + (l.g - 1) * 6 = omega arith in
-    let along = c.point-in-loop-g.ensures ∙ ap (pointAt dirs) l.invariant.3 in
-    let on = carried_on dirs l.g l.invariant.4 l.invariant.1 along c.next-carried.ensures in
+    let along = c.point-in-loop-g.ensures ∙ ap (point_at dirs) l.invariant.3 in
+    let on = carried_on-next dirs l.g l.invariant.4 l.invariant.1 along c.next-carried.ensures in
     let frame = ap (λ (b : Carried). b.frame) on
     ∙ frame-within m curve has.table has.segment l.g c.loop-g-test.true in (
       all-written 6 f before (one_more 6 (l.g - 1) 6 f before (λ k h. refl)
           l.invariant.0 place c.put_pair-in-loop-g.ensures
-          ((λ i. ribbonPair (c.vertex-in-loop-g.ensures i) (frame i) a.width)
-          ∙ ap (ribbonPart a.width m curve) (sym here))) (here ∙ next),
-      on ∙ ap (carriedIn dirs) next,
+          ((λ i. ribbon_pair (c.vertex-in-loop-g.ensures i) (frame i) a.width)
+          ∙ ap (ribbon_part a.width m curve) (sym here))) (here ∙ next),
+      on ∙ ap (carried_in dirs) next,
       omega arith,
       omega arith,
       omega arith,
@@ -71,19 +71,19 @@ returns c =
     let a = c.args in
     let curve = a.curve.now in
     let dirs = a.directions.now in
-    let m = verticesIn curve - 1 in
-    let f = ribbonPart a.width m curve in
+    let m = vertices_in curve - 1 in
+    let f = ribbon_part a.width m curve in
     let table = c.requires.open_curve.table in
     let segment = c.requires.open_curve.segment in
     let e : o.g - 1 ≡ m - 1 = omega arith in
     let place : o.place ≡ 6 + (m - 1) * 6 = omega arith in
-    let start = c.first-carried.ensures ∙ ap carriedOn c.point.ensures in
+    let start = c.first-carried.ensures ∙ ap carried_on c.point.ensures in
     let frame = ap (λ (b : Carried). b.frame) start ∙ frame-within m curve table segment 0 segment in
-    let frame-end = ap (λ (b : Carried). b.frame) (o.invariant.1 ∙ ap (carriedIn dirs) e)
+    let frame-end = ap (λ (b : Carried). b.frame) (o.invariant.1 ∙ ap (carried_in dirs) e)
     ∙ frame-last m curve table segment in
     ends-written m 6 ((m - 1) * 6) f a.out.now segment refl
-    (length-blocks 6 (m - 1) (laterPair a.width m curve) (λ k h. refl)) c.put_pair.ensures
-    (λ i. ribbonPair (c.vertex.ensures i) (frame i) a.width)
-    (all-written 6 (laterPair a.width m curve) c.put_pair.new.out o.invariant.0 e)
+    (length-blocks 6 (m - 1) (later_pair a.width m curve) (λ k h. refl)) c.put_pair.ensures
+    (λ i. ribbon_pair (c.vertex.ensures i) (frame i) a.width)
+    (all-written 6 (later_pair a.width m curve) c.put_pair.new.out o.invariant.0 e)
     c.put_pair-2.ensures place
-    (λ i. ribbonPair (c.vertex-2.ensures i) (frame-end i) a.width)
+    (λ i. ribbon_pair (c.vertex-2.ensures i) (frame-end i) a.width)

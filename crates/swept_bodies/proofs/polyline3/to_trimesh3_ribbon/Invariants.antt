@@ -7,18 +7,18 @@ use lib.Ieee.{Float}
 use lib.ListN.{length}
 use Rattle.laws.specs.Overwrite.{overwrite}
 use Rattle.laws.specs.Blocks.{blocks}
-use Rattle.swept_bodies.specs.Tables.{carriedIn}
-use Rattle.swept_bodies.specs.Polyline3.{ribbonPart}
+use Rattle.swept_bodies.specs.Tables.{carried_in}
+use Rattle.swept_bodies.specs.Polyline3.{ribbon_part}
 use Rattle.swept_bodies.proofs.polyline3.to_trimesh3_ribbon.Given as goal
 
 -- the pair at the vertex after vertex k
-abbrev pub laterPair : Float → ℕ → List Float → ℕ → List Float
-laterPair width m curve k = ribbonPart width m curve (k + 1)
+abbrev pub later_pair : Float → ℕ → List Float → ℕ → List Float
+later_pair width m curve k = ribbon_part width m curve (k + 1)
 
 abbrev pub invariant-loop-g : goal.invariant-loop-g
 invariant-loop-g l =
-    (l.out ≡ overwrite 6 (blocks (l.g - 1) (laterPair l.width l.m l.curve)) l.initial.out)
-    × (l.carried ≡ carriedIn l.directions (l.g - 1))
+    (l.out ≡ overwrite 6 (blocks (l.g - 1) (later_pair l.width l.m l.curve)) l.initial.out)
+    × (l.carried ≡ carried_in l.directions (l.g - 1))
     × (l.place ≡ l.g * 6)
     × (l.k ≡ l.g * 3)
     × (1 ≤ l.g)

@@ -12,18 +12,18 @@ use Rattle.laws.specs.Overwrite.{overwrite, length-overwrite}
 use Rattle.laws.specs.Blocks.{ends-written}
 use Rattle.laws.specs.Lent.{length_rest, lent-from}
 use Rattle.surface.specs.declared.caps.End.TheVariants.{Bottom, Top}
-use Rattle.curve.specs.Segments.{vertexOf}
-use Rattle.curve.specs.Framex.{carriedOn}
+use Rattle.curve.specs.Segments.{vertex_of}
+use Rattle.curve.specs.Framex.{carried_on}
 use Rattle.curve.specs.declared.framex.Carried.{Carried}
-use Rattle.rings.specs.Axes.{axesAt}
-use Rattle.rings.specs.Vertices.{tubeVertex}
+use Rattle.rings.specs.Axes.{axes_at}
+use Rattle.rings.specs.Vertices.{tube_vertex}
 use Rattle.rings.specs.declared.axes.Axes.{Axes}
-use Rattle.ring_writers.specs.Caps.{endVertices}
+use Rattle.ring_writers.specs.Caps.{end_vertices}
 use Rattle.ring_writers.proofs.Lengths.{length-rings, length-end}
-use Rattle.swept_bodies.specs.Tables.{carriedIn}
-use Rattle.swept_bodies.specs.Swept.{innerRings}
-use Rattle.swept_bodies.specs.Polyline3.{axesOf}
-use Rattle.swept_bodies.specs.Capsule.{capsulePart}
+use Rattle.swept_bodies.specs.Tables.{carried_in}
+use Rattle.swept_bodies.specs.Swept.{inner_rings}
+use Rattle.swept_bodies.specs.Polyline3.{axes_of}
+use Rattle.swept_bodies.specs.Capsule.{capsule_part}
 use Rattle.swept_bodies.proofs.Axes.{axes-first, axes-last}
 use Rattle.swept_bodies.proofs.Parts.{tube-inner, parts-inner, part-last}
 use Rattle.swept_bodies.proofs.polyline3.write_capsule.Goals as goal
@@ -52,8 +52,8 @@ room s =
     omega (arith, mul-le-mul_right (size s) fits.cap, few, ap (λ (k : ℕ). k * size s) e, fits.within)
 
 -- what is carried begins on the first segment
-start : (f : After-first-start) → f.first-start.result ≡ carriedIn f.args.directions.now 0
-start f = f.first-start.ensures ∙ ap carriedOn f.point.ensures
+start : (f : After-first-start) → f.first-start.result ≡ carried_in f.args.directions.now 0
+start f = f.first-start.ensures ∙ ap carried_on f.point.ensures
 
 pub overflow_mul-size : goal.overflow_mul-size
 overflow_mul-size c = omega (arith, room (goal.at.overflow_mul-size c).Start)
@@ -85,7 +85,7 @@ write_inner-end-requires-clause-room c =
 
 -- the inner rings, written to the part that was lent
 abbrev rings : After-write_inner-end → List Float
-rings e = innerRings e.args.sweep e.args.curve.now e.args.directions.now e.args.ez.now
+rings e = inner_rings e.args.sweep e.args.curve.now e.args.directions.now e.args.ez.now
 
 abbrev lent : After-write_inner-end → ℕ
 lent e = 3 + e.args.longitudes * (e.args.sweep.divisions * 3)
@@ -140,16 +140,16 @@ returns c =
     let has = c.requires.open_sweep in
     let before = c.write_bottom.new.out in
     let on-last = c.axes_on-last in
-    let first = c.axes_on.ensures ∙ ap (λ (b : Carried). axesAt (vertexOf curve 0) b.frame b.direction)
+    let first = c.axes_on.ensures ∙ ap (λ (b : Carried). axes_at (vertex_of curve 0) b.frame b.direction)
     (start (goal.at.returns c).After-first-start) ∙ axes-first m curve has.table has.segment in
-    let last = on-last.ensures ∙ ap (λ (b : Carried). axesAt (vertexOf curve m) b.frame b.direction)
+    let last = on-last.ensures ∙ ap (λ (b : Carried). axes_at (vertex_of curve m) b.frame b.direction)
     c.write_inner-end.ensures.carried
     ∙ axes-last m curve has.table has.segment in
-    ends-written m (bottom s) ((m - 1) * size s) (capsulePart n L r m curve) a.out.now has.segment
-    (length-end Bottom (axesOf m curve 0) r L n)
-    (ap length (parts-inner n L r m curve) ∙ length-rings (λ k. tubeVertex (axesOf m curve (k + 1)) r) (m - 1) n)
-    c.write_bottom.ensures (ap (λ (b : Axes). endVertices Bottom b r L n) first)
+    ends-written m (bottom s) ((m - 1) * size s) (capsule_part n L r m curve) a.out.now has.segment
+    (length-end Bottom (axes_of m curve 0) r L n)
+    (ap length (parts-inner n L r m curve) ∙ length-rings (λ k. tube_vertex (axes_of m curve (k + 1)) r) (m - 1) n)
+    c.write_bottom.ensures (ap (λ (b : Axes). end_vertices Bottom b r L n) first)
     (inner e ∙ ap (λ (v : List Float). overwrite (bottom s) v before)
     (tube-inner a.sweep curve has ∙ sym (parts-inner n L r m curve)))
-    (lent-from (place s) (endVertices Top on-last.result r L n) (after e) c.write_top.ensures) refl
-    (ap (λ (b : Axes). endVertices Top b r L n) last ∙ sym (part-last n L r m curve has.segment))
+    (lent-from (place s) (end_vertices Top on-last.result r L n) (after e) c.write_top.ensures) refl
+    (ap (λ (b : Axes). end_vertices Top b r L n) last ∙ sym (part-last n L r m curve has.segment))

@@ -11,17 +11,17 @@ use Rattle.laws.specs.Overwrite.{overwrite, length-overwrite}
 use Rattle.laws.specs.Blocks.{ends-written}
 use Rattle.laws.specs.Lent.{length_rest, lent-from}
 use Rattle.laws.specs.Products.{next_row}
-use Rattle.curve.specs.Segments.{vertexOf}
-use Rattle.curve.specs.Framex.{carriedOn}
+use Rattle.curve.specs.Segments.{vertex_of}
+use Rattle.curve.specs.Framex.{carried_on}
 use Rattle.curve.specs.declared.framex.Carried.{Carried}
-use Rattle.rings.specs.Axes.{axesAt}
-use Rattle.rings.specs.Vertices.{tubeVertex}
-use Rattle.rings.specs.Rings.{ringAt}
+use Rattle.rings.specs.Axes.{axes_at}
+use Rattle.rings.specs.Vertices.{tube_vertex}
+use Rattle.rings.specs.Rings.{ring_at}
 use Rattle.rings.specs.declared.ring.Order.{Order}
 use Rattle.ring_writers.proofs.Lengths.{length-ring, length-rings}
-use Rattle.swept_bodies.specs.Tables.{carriedIn}
-use Rattle.swept_bodies.specs.Swept.{innerRings}
-use Rattle.swept_bodies.specs.Polyline3.{axesOf, tubeRing}
+use Rattle.swept_bodies.specs.Tables.{carried_in}
+use Rattle.swept_bodies.specs.Swept.{inner_rings}
+use Rattle.swept_bodies.specs.Polyline3.{axes_of, tube_ring}
 use Rattle.swept_bodies.proofs.Axes.{axes-first, axes-last}
 use Rattle.swept_bodies.proofs.Parts.{tube-ring, tube-inner}
 use Rattle.swept_bodies.proofs.polyline3.write_tube.Goals as goal
@@ -45,8 +45,8 @@ room s =
     omega (arith, s.requires.open_sweep.turned.most, s.requires.room, next_row m (size s))
 
 -- what is carried begins on the first segment
-start : (f : After-first-start) → f.first-start.result ≡ carriedIn f.args.directions.now 0
-start f = f.first-start.ensures ∙ ap carriedOn f.point.ensures
+start : (f : After-first-start) → f.first-start.result ≡ carried_in f.args.directions.now 0
+start f = f.first-start.ensures ∙ ap carried_on f.point.ensures
 
 pub write_ring-requires-clause-room : goal.write_ring-requires-clause-room
 write_ring-requires-clause-room c = omega (arith, room (goal.at.write_ring-requires-clause-room c).Start)
@@ -72,7 +72,7 @@ write_inner-end-requires-clause-room c =
 
 -- the inner rings, written to the part that was lent
 abbrev rings : After-write_inner-end → List Float
-rings e = innerRings e.args.sweep e.args.curve.now e.args.directions.now e.args.ez.now
+rings e = inner_rings e.args.sweep e.args.curve.now e.args.directions.now e.args.ez.now
 
 inner : (e : After-write_inner-end) →
     let at = e.args.sweep.divisions * 3 in
@@ -109,21 +109,21 @@ returns c =
     let curve = a.curve.now in
     let has = c.requires.open_sweep in
     let after = c.write_ring.new.out in
-    let ring = tubeRing n r m curve in
+    let ring = tube_ring n r m curve in
     let on-first = c.axes_on-first in
     let on-last = c.axes_on-last in
-    let first = on-first.ensures ∙ ap (λ (b : Carried). axesAt (vertexOf curve 0) b.frame b.direction)
+    let first = on-first.ensures ∙ ap (λ (b : Carried). axes_at (vertex_of curve 0) b.frame b.direction)
     (start (goal.at.returns c).After-first-start) ∙ axes-first m curve has.table has.segment in
-    let last = on-last.ensures ∙ ap (λ (b : Carried). axesAt (vertexOf curve m) b.frame b.direction)
+    let last = on-last.ensures ∙ ap (λ (b : Carried). axes_at (vertex_of curve m) b.frame b.direction)
     c.write_inner-end.ensures.carried
     ∙ axes-last m curve has.table has.segment in
     ends-written m (size s) ((m - 1) * size s) ring a.out.now has.segment
-    (length-ring (tubeVertex (axesOf m curve 0) r) n) (length-rings (λ k. tubeVertex (axesOf m curve (k + 1)) r)
+    (length-ring (tube_vertex (axes_of m curve 0) r) n) (length-rings (λ k. tube_vertex (axes_of m curve (k + 1)) r)
     (m - 1) n)
     c.write_ring.ensures
     (tube-ring n r m curve 0 (c.around-ring.ensures
-    ∙ ap (λ (o : Order). ringAt o on-first.result r) has.order) first)
+    ∙ ap (λ (o : Order). ring_at o on-first.result r) has.order) first)
     (inner e ∙ ap (λ (v : List Float). overwrite (size s) v after) (tube-inner a.sweep curve has))
     c.write_ring-2.ensures (last-place s)
     (tube-ring n r m curve m (c.around-ring-2.ensures
-    ∙ ap (λ (o : Order). ringAt o on-last.result r) has.order) last)
+    ∙ ap (λ (o : Order). ring_at o on-last.result r) has.order) last)

@@ -9,17 +9,17 @@ use Rattle.laws.specs.Overwrite.{overwrite}
 use Rattle.laws.specs.Blocks.{first-and-others}
 use Rattle.laws.specs.Lent.{length_rest, lent-from}
 use Rattle.laws.specs.Products.{next_row}
-use Rattle.curve.specs.Segments.{vertexOf}
-use Rattle.curve.specs.Framex.{carriedOn}
+use Rattle.curve.specs.Segments.{vertex_of}
+use Rattle.curve.specs.Framex.{carried_on}
 use Rattle.curve.specs.declared.framex.Carried.{Carried}
-use Rattle.rings.specs.Axes.{axesAt}
-use Rattle.rings.specs.Vertices.{torusVertex}
-use Rattle.rings.specs.Rings.{ringAt}
+use Rattle.rings.specs.Axes.{axes_at}
+use Rattle.rings.specs.Vertices.{torus_vertex}
+use Rattle.rings.specs.Rings.{ring_at}
 use Rattle.rings.specs.declared.ring.Order.{Order}
 use Rattle.ring_writers.proofs.Lengths.{length-ring}
-use Rattle.swept_bodies.specs.Tables.{carriedIn}
-use Rattle.swept_bodies.specs.Swept.{innerRings}
-use Rattle.swept_bodies.specs.Polyloop3.{vtx2framex, axesOf, torusPart}
+use Rattle.swept_bodies.specs.Tables.{carried_in}
+use Rattle.swept_bodies.specs.Swept.{inner_rings}
+use Rattle.swept_bodies.specs.Polyloop3.{vtx2framex, axes_of, torus_part}
 use Rattle.swept_bodies.proofs.Axes.{axes-loop-first}
 use Rattle.swept_bodies.proofs.Parts.{torus-ring, torus-inner}
 use Rattle.swept_bodies.proofs.polyloop3.write_torus.Goals as goal
@@ -39,8 +39,8 @@ room s =
     omega (arith, has.turned.most, s.requires.room, next_row (N - 1) (size s), ap (λ (k : ℕ). k * size s) e)
 
 -- what is carried begins on the first segment
-start : (f : After-first-start) → f.first-start.result ≡ carriedIn f.args.directions.now 0
-start f = f.first-start.ensures ∙ ap carriedOn f.point.ensures
+start : (f : After-first-start) → f.first-start.result ≡ carried_in f.args.directions.now 0
+start f = f.first-start.ensures ∙ ap carried_on f.point.ensures
 
 pub write_ring-requires-clause-room : goal.write_ring-requires-clause-room
 write_ring-requires-clause-room c = omega (arith, room (goal.at.write_ring-requires-clause-room c).Start)
@@ -75,13 +75,13 @@ returns c =
     let has = c.requires.closed_sweep in
     let after = c.write_ring.new.out in
     let on-first = c.axes_on-first in
-    let first = on-first.ensures ∙ ap (λ (b : Carried). axesAt (vertexOf curve 0) b.frame b.direction)
+    let first = on-first.ensures ∙ ap (λ (b : Carried). axes_at (vertex_of curve 0) b.frame b.direction)
     (start (goal.at.returns c).After-first-start)
     ∙ axes-loop-first N curve has.table has.segment in
-    first-and-others N (size s) (torusPart n r N curve) a.out.now has.segment
-    (length-ring (torusVertex (axesOf N curve (vtx2framex N curve 0) 0) r) n)
+    first-and-others N (size s) (torus_part n r N curve) a.out.now has.segment
+    (length-ring (torus_vertex (axes_of N curve (vtx2framex N curve 0) 0) r) n)
     c.write_ring.ensures
     (torus-ring n r N curve (vtx2framex N curve 0) 0 (c.around-ring.ensures
-    ∙ ap (λ (o : Order). ringAt o on-first.result r) has.order) first)
-    (lent-from (size s) (innerRings a.sweep curve dirs dirs) after c.write_inner.ensures.written
+    ∙ ap (λ (o : Order). ring_at o on-first.result r) has.order) first)
+    (lent-from (size s) (inner_rings a.sweep curve dirs dirs) after c.write_inner.ensures.written
     ∙ ap (λ (v : List Float). overwrite (size s) v after) (torus-inner a.sweep curve has))

@@ -7,10 +7,10 @@ use lib.Ieee.{Float}
 use Rattle.laws.specs.Overwrite.{overwrite-none}
 use Rattle.laws.specs.Blocks.{one_more, all-written}
 use Rattle.vec3.specs.Points.{coordinates}
-use Rattle.curve.specs.Segments.{pointAt}
-use Rattle.rings.specs.Axes.{betweenOf}
+use Rattle.curve.specs.Segments.{point_at}
+use Rattle.rings.specs.Axes.{between_of}
 use Rattle.ring_writers.proofs.Tables.{table-point}
-use Rattle.swept_bodies.proofs.swept.fill_framez.Invariants.{betweenIn}
+use Rattle.swept_bodies.proofs.swept.fill_framez.Invariants.{between_in}
 use Rattle.swept_bodies.proofs.swept.fill_framez.Goals as goal
 
 pub loop-g-init : goal.loop-g-init
@@ -22,12 +22,12 @@ loop-g-preserved c =
     let a = c.args in
     let dirs = a.directions.now in
     let next : l.g - 1 + 1 ≡ l.g + 1 - 1 = omega arith in
-    let u = c.point.ensures ∙ ap (pointAt dirs) l.invariant.1 in
-    let v = c.point-in-loop-g.ensures ∙ ap (λ (k : ℕ). pointAt dirs (k + 3)) l.invariant.1 in (
-      all-written 3 (λ k. coordinates (betweenIn dirs k)) a.out.now
-          (one_more 3 (l.g - 1) 3 (λ k. coordinates (betweenIn dirs k)) a.out.now (λ k h. refl) l.invariant.0
+    let u = c.point.ensures ∙ ap (point_at dirs) l.invariant.1 in
+    let v = c.point-in-loop-g.ensures ∙ ap (λ (k : ℕ). point_at dirs (k + 3)) l.invariant.1 in (
+      all-written 3 (λ k. coordinates (between_in dirs k)) a.out.now
+          (one_more 3 (l.g - 1) 3 (λ k. coordinates (between_in dirs k)) a.out.now (λ k h. refl) l.invariant.0
           (omega arith) c.put_point.ensures
-          (ap coordinates (c.framez-ez.ensures ∙ (λ j. betweenOf (u j) (v j))))) next,
+          (ap coordinates (c.framez-ez.ensures ∙ (λ j. between_of (u j) (v j))))) next,
       omega arith,
       omega arith,
       omega arith,
@@ -40,13 +40,13 @@ returns c =
     let a = c.args in
     let dirs = a.directions.now in
     let e : o.g - 1 ≡ a.count - 1 = omega arith in
-    let whole = all-written 3 (λ k. coordinates (betweenIn dirs k)) a.out.now o.invariant.0 e in
+    let whole = all-written 3 (λ k. coordinates (between_in dirs k)) a.out.now o.invariant.0 e in
     record {
       room = omega (arith, o.invariant.4, c.requires.room);
       between = λ g l h.
           let e : (g - 1) * 3 + 3 ≡ g * 3 = omega arith in
-          ap (λ (t : List Float). pointAt t (g * 3)) whole
-          ∙ table-point 3 (a.count - 1) (betweenIn dirs) a.out.now (g - 1) {q = g * 3}
+          ap (λ (t : List Float). point_at t (g * 3)) whole
+          ∙ table-point 3 (a.count - 1) (between_in dirs) a.out.now (g - 1) {q = g * 3}
           (omega (arith, c.requires.room)) (omega arith) (omega arith)
-          ∙ ap (λ (k : ℕ). betweenOf (pointAt dirs ((g - 1) * 3)) (pointAt dirs k)) e;
+          ∙ ap (λ (k : ℕ). between_of (point_at dirs ((g - 1) * 3)) (point_at dirs k)) e;
     }

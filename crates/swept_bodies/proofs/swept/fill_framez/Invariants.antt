@@ -8,17 +8,17 @@ use Rattle.laws.specs.Overwrite.{overwrite}
 use Rattle.laws.specs.Blocks.{blocks}
 use Rattle.vec3.specs.Points.{coordinates}
 use Rattle.vec3.specs.declared.points.Point.{Point}
-use Rattle.curve.specs.Segments.{pointAt}
-use Rattle.rings.specs.Axes.{betweenOf}
+use Rattle.curve.specs.Segments.{point_at}
+use Rattle.rings.specs.Axes.{between_of}
 use Rattle.swept_bodies.proofs.swept.fill_framez.Given as goal
 
 -- ez between segments k and k + 1
-abbrev pub betweenIn : List Float → ℕ → Point
-betweenIn directions k = betweenOf (pointAt directions (k * 3)) (pointAt directions (k * 3 + 3))
+abbrev pub between_in : List Float → ℕ → Point
+between_in directions k = between_of (point_at directions (k * 3)) (point_at directions (k * 3 + 3))
 
 abbrev pub invariant-loop-g : goal.invariant-loop-g
 invariant-loop-g l =
-    (l.out ≡ overwrite 3 (blocks (l.g - 1) (λ k. coordinates (betweenIn l.directions k))) l.initial.out)
+    (l.out ≡ overwrite 3 (blocks (l.g - 1) (λ k. coordinates (between_in l.directions k))) l.initial.out)
     × (l.before ≡ (l.g - 1) * 3)
     × (1 ≤ l.g)
     × (l.g - 1 ≤ l.count - 1)

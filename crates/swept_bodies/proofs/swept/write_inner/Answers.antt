@@ -7,17 +7,17 @@ use lib.ListN.{length}
 use Rattle.laws.specs.Overwrite.{overwrite-none}
 use Rattle.laws.specs.Blocks.{one_more, all-written}
 use Rattle.laws.specs.Products.{next_row, row_within}
-use Rattle.curve.specs.Segments.{pointAt}
-use Rattle.rings.specs.Axes.{axesAt}
-use Rattle.rings.specs.Vertices.{ringOf}
-use Rattle.rings.specs.Rings.{ringVertex, ringAt}
+use Rattle.curve.specs.Segments.{point_at}
+use Rattle.rings.specs.Axes.{axes_at}
+use Rattle.rings.specs.Vertices.{ring_of}
+use Rattle.rings.specs.Rings.{ring_vertex, ring_at}
 use Rattle.rings.specs.declared.axes.Axes.{Axes}
 use Rattle.rings.specs.declared.ring.Ring.{Ring}
 use Rattle.ring_writers.proofs.Lengths.{length-ring}
-use Rattle.swept_bodies.specs.Tables.{carriedIn}
-use Rattle.swept_bodies.specs.Swept.{axesIn, ringIn}
-use Rattle.swept_bodies.proofs.Axes.{carried_on}
-use Rattle.swept_bodies.proofs.swept.write_inner.Invariants.{innerRing}
+use Rattle.swept_bodies.specs.Tables.{carried_in}
+use Rattle.swept_bodies.specs.Swept.{axes_in, ring_in}
+use Rattle.swept_bodies.proofs.Axes.{carried_on-next}
+use Rattle.swept_bodies.proofs.swept.write_inner.Invariants.{inner_ring}
 use Rattle.swept_bodies.proofs.swept.write_inner.Goals as goal
 use Rattle.swept_bodies.proofs.swept.write_inner.Goals.{In-loop-g}
 
@@ -56,21 +56,21 @@ loop-g-preserved c =
     let curve = a.curve.now in
     let dirs = a.directions.now in
     let ez = a.ez.now in
-    let f = innerRing sweep curve dirs ez in
+    let f = inner_ring sweep curve dirs ez in
     let here : l.g - 1 + 1 ≡ l.g = omega arith in
     let next : l.g ≡ l.g + 1 - 1 = omega arith in
-    let along = c.point.ensures ∙ ap (pointAt dirs) l.invariant.3 in
-    let on = carried_on dirs l.g l.invariant.4 l.invariant.1 along c.next-carried.ensures in
-    let axes : c.at-axes.result ≡ axesIn curve dirs ez l.g = c.at-axes.ensures
-    ∙ (λ j. axesAt (c.vertex.ensures j) (on j).frame
-    ((c.point-in-loop-g.ensures ∙ ap (pointAt ez) l.invariant.3) j)) in
-    let ring = c.around-ring.ensures ∙ ap (λ (b : Axes). ringAt sweep.order b sweep.radius) axes in (
+    let along = c.point.ensures ∙ ap (point_at dirs) l.invariant.3 in
+    let on = carried_on-next dirs l.g l.invariant.4 l.invariant.1 along c.next-carried.ensures in
+    let axes : c.at-axes.result ≡ axes_in curve dirs ez l.g = c.at-axes.ensures
+    ∙ (λ j. axes_at (c.vertex.ensures j) (on j).frame
+    ((c.point-in-loop-g.ensures ∙ ap (point_at ez) l.invariant.3) j)) in
+    let ring = c.around-ring.ensures ∙ ap (λ (b : Axes). ring_at sweep.order b sweep.radius) axes in (
       all-written 0 f a.out.now (one_more 0 (l.g - 1) (sweep.divisions * 3) f a.out.now
-          (λ k h. length-ring (ringVertex (ringAt sweep.order (axesIn curve dirs ez (k + 1)) sweep.radius))
+          (λ k h. length-ring (ring_vertex (ring_at sweep.order (axes_in curve dirs ez (k + 1)) sweep.radius))
           sweep.divisions) l.invariant.0 (omega arith) c.write_ring.ensures
-          (ap (λ (k : Ring). ringOf (ringVertex k) sweep.divisions) ring
-          ∙ ap (ringIn sweep curve dirs ez) (sym here))) (here ∙ next),
-      on ∙ ap (carriedIn dirs) next,
+          (ap (λ (k : Ring). ring_of (ring_vertex k) sweep.divisions) ring
+          ∙ ap (ring_in sweep curve dirs ez) (sym here))) (here ∙ next),
+      on ∙ ap (carried_in dirs) next,
       omega (
         arith,
         next_row (l.g - 1) (sweep.divisions * 3),
@@ -89,6 +89,6 @@ returns c =
     let dirs = a.directions.now in
     let e : o.g - 1 ≡ a.sweep.segments - 1 = omega arith in
     record {
-      carried = o.invariant.1 ∙ ap (carriedIn dirs) e;
-      written = all-written 0 (innerRing a.sweep a.curve.now dirs a.ez.now) a.out.now o.invariant.0 e;
+      carried = o.invariant.1 ∙ ap (carried_in dirs) e;
+      written = all-written 0 (inner_ring a.sweep a.curve.now dirs a.ez.now) a.out.now o.invariant.0 e;
     }

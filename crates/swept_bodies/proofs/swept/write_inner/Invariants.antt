@@ -7,19 +7,19 @@ use lib.Ieee.{Float}
 use lib.ListN.{length}
 use Rattle.laws.specs.Overwrite.{overwrite}
 use Rattle.laws.specs.Blocks.{blocks}
-use Rattle.swept_bodies.specs.Tables.{carriedIn}
-use Rattle.swept_bodies.specs.Swept.{ringIn}
+use Rattle.swept_bodies.specs.Tables.{carried_in}
+use Rattle.swept_bodies.specs.Swept.{ring_in}
 use Rattle.swept_bodies.specs.declared.swept.Sweep.{Sweep}
 use Rattle.swept_bodies.proofs.swept.write_inner.Given as goal
 
 -- inner ring k, which is that at vertex k + 1
-abbrev pub innerRing : Sweep → List Float → List Float → List Float → ℕ → List Float
-innerRing sweep curve directions ez k = ringIn sweep curve directions ez (k + 1)
+abbrev pub inner_ring : Sweep → List Float → List Float → List Float → ℕ → List Float
+inner_ring sweep curve directions ez k = ring_in sweep curve directions ez (k + 1)
 
 abbrev pub invariant-loop-g : goal.invariant-loop-g
 invariant-loop-g l =
-    (l.out ≡ overwrite 0 (blocks (l.g - 1) (innerRing l.sweep l.curve l.directions l.ez)) l.initial.out)
-    × (l.carried ≡ carriedIn l.directions (l.g - 1))
+    (l.out ≡ overwrite 0 (blocks (l.g - 1) (inner_ring l.sweep l.curve l.directions l.ez)) l.initial.out)
+    × (l.carried ≡ carried_in l.directions (l.g - 1))
     × (l.place ≡ (l.g - 1) * (l.sweep.divisions * 3))
     × (l.k ≡ l.g * 3)
     × (1 ≤ l.g)

@@ -2,30 +2,30 @@
 use Rattle.std.proofs.Common.{◌≡◌, sym, ap, ◌∙◌, true, false, List, ℕ, ◌+◌, ◌*◌, length, get_or, zero-add, arith}
 use Rattle.std.specs.Prelude.{Float}
 use Rattle.std.specs.Float.{nan}
-use Rattle.float32.specs.Scan.{allFinite}
-use Rattle.twists.specs.Twists.{forward, scoreOf, twistAt, scoresFinite}
+use Rattle.float32.specs.Scan.{all_finite}
+use Rattle.twists.specs.Twists.{forward, score_of, twist_at, scores_finite}
 use Rattle.twists.specs.Scores.{ScoresIn}
-use Rattle.twists.specs.Leaders.{leads, ledBy}
-use Rattle.twists.specs.Chosen.{leaderAt, chosenTwist, foundFor}
+use Rattle.twists.specs.Leaders.{leads, led_by}
+use Rattle.twists.specs.Chosen.{leader_at, chosen_twist, found_for}
 use Rattle.twists.specs.declared.leader.Leader.{Leader}
 use Rattle.twists.specs.declared.best.Found.{Found}
-use Rattle.twists.proofs.Finites.{finiteAt, and-after, finite-block}
+use Rattle.twists.proofs.Finites.{finite_at, and-after, finite-block}
 use Rattle.twists.proofs.Leaders.{leads-block}
 use Rattle.twists.proofs.best.search_by.Goals as goal
 use Rattle.twists.proofs.best.search_by.Goals.{then-finite, else-finite}
 
 -- the leader after the 512 places from m on
 led-more : (c0 s0 : Float) (m : ℕ) (scores : List Float) (now next : Leader) → ScoresIn c0 s0 m scores
-    → now ≡ leaderAt c0 s0 m → next ≡ ledBy scores m (length scores) now → next ≡ leaderAt c0 s0 (m + 512)
+    → now ≡ leader_at c0 s0 m → next ≡ led_by scores m (length scores) now → next ≡ leader_at c0 s0 (m + 512)
 led-more c0 s0 m scores now next holds before is =
     let score : ℕ → Float = λ i. get_or scores i nan in
-    let first : Leader = record { place = 0; score = scoreOf c0 s0 (forward 0) } in
-    leads-block (λ i. scoreOf c0 s0 (twistAt i)) score 0 m 512 first holds.score before
+    let first : Leader = record { place = 0; score = score_of c0 s0 (forward 0) } in
+    leads-block (λ i. score_of c0 s0 (twist_at i)) score 0 m 512 first holds.score before
     (is ∙ (λ i. leads score (sym (zero-add m) i) (holds.many i) now))
 
 -- what is found after the first `count` places
 abbrev found_at : Float → Float → ℕ → Found
-found_at c0 s0 count = record { twist = twistAt (leaderAt c0 s0 count).place; finite = finiteAt c0 s0 count }
+found_at c0 s0 count = record { twist = twist_at (leader_at c0 s0 count).place; finite = finite_at c0 s0 count }
 
 pub loop-part-preserved : goal.loop-part-preserved
 loop-part-preserved c =
@@ -38,21 +38,21 @@ loop-part-preserved c =
     record {
       within = omega arith;
       led = led-more a.c0 a.s0 m scores l.leader c.lead-leader.result holds l.invariant.led c.lead-leader.ensures
-          ∙ ap (leaderAt a.c0 a.s0) more;
+          ∙ ap (leader_at a.c0 a.s0) more;
       told = finite-block a.c0 a.s0 m scores holds l.invariant.told (elim c.if-finite.branch [
-        | then-finite w ↦ and-after true l.finite (allFinite scores) w.if-finite.true
+        | then-finite w ↦ and-after true l.finite (all_finite scores) w.if-finite.true
             (w.finite-is ∙ w.are_finite-finite.ensures)
-        | else-finite w ↦ and-after false l.finite (allFinite scores) w.if-finite.false
+        | else-finite w ↦ and-after false l.finite (all_finite scores) w.if-finite.false
             (w.finite-is ∙ w.if-finite.false)
-      ]) ∙ ap (finiteAt a.c0 a.s0) more;
+      ]) ∙ ap (finite_at a.c0 a.s0) more;
       sized = holds.many;
     }
 
 pub returns : goal.returns
-unfolding foundFor chosenTwist scoresFinite
+unfolding found_for chosen_twist scores_finite
 returns c =
     let l = c.loop-part in
     let a = c.args in
     let all : 512 * l.part ≡ 4096 = omega arith in
-    let twist = c.twist_at.ensures ∙ ap (λ (b : Leader). twistAt b.place) l.invariant.led in
+    let twist = c.twist_at.ensures ∙ ap (λ (b : Leader). twist_at b.place) l.invariant.led in
     (λ i. record { twist = twist i; finite = l.invariant.told i }) ∙ ap (found_at a.c0 a.s0) all

@@ -6,9 +6,9 @@ use Rattle.std.specs.Float.{binary32}
 use Rattle.std.specs.Float.Ieee.{of_int, of_bits}
 use Rattle.laws.specs.Overwrite.{overwrite-none}
 use Rattle.vec3.specs.Points.{over}
-use Rattle.vec3.specs.Turns.{whole, fraction, withinOctant}
+use Rattle.vec3.specs.Turns.{whole, fraction, within_octant}
 use Rattle.vec3.specs.declared.turns.Direction.{Direction}
-use Rattle.twists.specs.Eighth.{eighthOf}
+use Rattle.twists.specs.Eighth.{eighth_of}
 use Rattle.twists.proofs.Tables.{one-filled, filled-read}
 use Rattle.twists.proofs.eighth.fill_eighth.Invariants.{cosine, sine}
 use Rattle.twists.proofs.eighth.fill_eighth.Goals as goal
@@ -18,9 +18,9 @@ steps-of-turn : of_bits binary32 0x4580_0000 ≡ whole 4096
 unfolding whole of_int of_bits
 steps-of-turn = refl
 
-eighth-is : (i : ℕ) → withinOctant (over (of_int binary32 (pos (8 * i))) (of_bits binary32 0x4580_0000)) ≡ eighthOf i
-unfolding eighthOf fraction whole
-eighth-is i = ap (λ (n : Float). withinOctant (over (of_int binary32 (pos (8 * i))) n)) steps-of-turn
+eighth-is : (i : ℕ) → within_octant (over (of_int binary32 (pos (8 * i))) (of_bits binary32 0x4580_0000)) ≡ eighth_of i
+unfolding eighth_of fraction whole
+eighth-is i = ap (λ (n : Float). within_octant (over (of_int binary32 (pos (8 * i))) n)) steps-of-turn
 
 pub loop-i-init : goal.loop-i-init
 loop-i-init c = record {
@@ -33,7 +33,7 @@ pub loop-i-preserved : goal.loop-i-preserved
 loop-i-preserved c =
     let l = c.loop-i in
     let a = c.args in
-    let is : c.within_octant-d.result ≡ eighthOf l.i = c.within_octant-d.ensures ∙ eighth-is l.i in
+    let is : c.within_octant-d.result ≡ eighth_of l.i = c.within_octant-d.ensures ∙ eighth-is l.i in
     record {
       within = omega arith;
       cosines = one-filled cosine l.i a.cos.now l.invariant.cosines (ap (λ (e : Direction). e.cos) is);

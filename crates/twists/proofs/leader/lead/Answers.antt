@@ -4,7 +4,7 @@ use Rattle.std.proofs.Common.{◌≡◌, sym, ap, ◌∙◌, List, ℕ, ◌+◌,
 use Rattle.std.specs.Prelude.{Float}
 use Rattle.std.specs.Float.{nan}
 use Rattle.laws.specs.Parts.{part, length_part, get_d_part}
-use Rattle.twists.specs.Leaders.{ledBy}
+use Rattle.twists.specs.Leaders.{led_by}
 use Rattle.twists.specs.declared.leader.Leader.{Leader}
 use Rattle.twists.proofs.Leaders.{leads-none, leads-block}
 use Rattle.twists.proofs.leader.lead.Goals as goal
@@ -15,16 +15,16 @@ block_at at scores = part at (at + 32 - at) scores
 
 -- A turn that leaves the leader of its block leaves that of all scores passed.
 turned : (scores : List Float) (base at : ℕ) (start now next : Leader) → at + 32 ≤ length scores
-    → now ≡ ledBy scores base at start
-    → next ≡ ledBy (block_at at scores) (base + at) (length (block_at at scores)) now
-    → next ≡ ledBy scores base (at + 32) start
+    → now ≡ led_by scores base at start
+    → next ≡ led_by (block_at at scores) (base + at) (length (block_at at scores)) now
+    → next ≡ led_by scores base (at + 32) start
 turned scores base at start now next fits before is =
     let size = at + 32 - at in
     let sized : length (block_at at scores) ≡ 32 =
     length_part at size scores (omega arith) ∙ (let e : size ≡ 32 = omega arith in e) in
     leads-block (λ i. get_or scores i nan) (λ i. get_or (block_at at scores) i nan) base at 32 start
     (λ k g. get_d_part at size scores k nan (omega arith)) before
-    (is ∙ ap (λ (n : ℕ). ledBy (block_at at scores) (base + at) n now) sized)
+    (is ∙ ap (λ (n : ℕ). led_by (block_at at scores) (base + at) n now) sized)
 
 pub loop-at-preserved-then-not-is_none_above : goal.loop-at-preserved-then-not-is_none_above
 loop-at-preserved-then-not-is_none_above c =

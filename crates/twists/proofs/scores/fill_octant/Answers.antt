@@ -6,9 +6,9 @@ use Rattle.std.specs.Float.{binary32}
 use Rattle.std.specs.Float.Ieee.{neg}
 use Rattle.float32.proofs.Signs.{mul-neg}
 use Rattle.vec3.specs.Points.{plus, times}
-use Rattle.vec3.specs.Turns.{inOctant}
+use Rattle.vec3.specs.Turns.{in_octant}
 use Rattle.vec3.specs.declared.turns.Direction.{Direction}
-use Rattle.twists.specs.Scores.{octantScores}
+use Rattle.twists.specs.Scores.{octant_scores}
 use Rattle.twists.proofs.Octants.{octant-sums}
 use Rattle.twists.proofs.scores.fill_octant.Goals as goal
 
@@ -22,35 +22,35 @@ negated : (a b x y : Float) → plus (times (neg a) x) (times b y) ≡ plus (tim
 negated a b x y = ap (λ (p : Float). plus p (times b y)) (mul-neg binary32 a x)
 
 pub returns-in-0 : goal.returns-in-0
-unfolding inOctant
+unfolding in_octant
 returns-in-0 c =
     let a = c.args in
     let t = c.requires.1 in
     c.fill_sums.ensures
     ∙ octant-sums a.c0 a.s0 a.c0 a.s0 0 a.cos.now a.sin.now cosine sine (omega arith) t.cosine t.sine (λ d. refl)
-    ∙ ap (octantScores a.c0 a.s0) (sym c.in-0.is)
+    ∙ ap (octant_scores a.c0 a.s0) (sym c.in-0.is)
 
 pub returns-in-1 : goal.returns-in-1
-unfolding inOctant
+unfolding in_octant
 returns-in-1 c =
     let a = c.args in
     let t = c.requires.1 in
     c.fill_sums-in-1.ensures
     ∙ octant-sums a.c0 a.s0 a.c0 a.s0 1 a.sin.now a.cos.now sine cosine (omega arith) t.sine t.cosine (λ d. refl)
-    ∙ ap (octantScores a.c0 a.s0) (sym c.in-1.is)
+    ∙ ap (octant_scores a.c0 a.s0) (sym c.in-1.is)
 
 pub returns-in-2 : goal.returns-in-2
-unfolding inOctant
+unfolding in_octant
 returns-in-2 c =
     let a = c.args in
     let t = c.requires.1 in
     c.fill_sums-in-2.ensures
     ∙ octant-sums a.c0 a.s0 (neg a.c0) a.s0 2 a.sin.now a.cos.now sine cosine (omega arith) t.sine t.cosine
     (λ d. negated a.c0 a.s0 d.sin d.cos)
-    ∙ ap (octantScores a.c0 a.s0) (sym c.in-2.is)
+    ∙ ap (octant_scores a.c0 a.s0) (sym c.in-2.is)
 
 pub returns-in_default : goal.returns-in_default
-unfolding inOctant
+unfolding in_octant
 returns-in_default c =
     let a = c.args in
     let t = c.requires.1 in
@@ -58,4 +58,4 @@ returns-in_default c =
     c.fill_sums-in_default.ensures
     ∙ octant-sums a.c0 a.s0 (neg a.c0) a.s0 3 a.cos.now a.sin.now cosine sine (omega arith) t.cosine t.sine
     (λ d. negated a.c0 a.s0 d.cos d.sin)
-    ∙ ap (octantScores a.c0 a.s0) (sym last)
+    ∙ ap (octant_scores a.c0 a.s0) (sym last)

@@ -3,7 +3,7 @@ use Rattle.std.proofs.Common.{◌≡◌, sym, ap, ℕ, get_or, arith}
 use Rattle.std.specs.Float.{nan}
 use Rattle.laws.specs.Overwrite.{overwrite-none}
 use Rattle.vec3.specs.Points.{plus, times}
-use Rattle.twists.specs.Scores.{productSum, product_sums}
+use Rattle.twists.specs.Scores.{product_sum, product_sums}
 use Rattle.twists.proofs.Tables.{one-filled, all-filled}
 use Rattle.twists.proofs.scores.fill_sums.Goals as goal
 
@@ -17,7 +17,7 @@ loop-j-preserved c =
     let sum : ℕ → _ = λ k. plus (times a.a (get_or a.xs.now k nan)) (times a.b (get_or a.ys.now k nan)) in
     record {
       within = omega arith;
-      written = one-filled (productSum a.a a.b a.odd a.xs.now a.ys.now) l.j a.out.now l.invariant.written
+      written = one-filled (product_sum a.a a.b a.odd a.xs.now a.ys.now) l.j a.out.now l.invariant.written
           (ap sum c.entry_at-entry.ensures);
     }
 
@@ -27,4 +27,4 @@ returns c =
     let l = c.loop-j in
     let a = c.args in
     let end : l.j ≡ 512 = omega arith in
-    all-filled (productSum a.a a.b a.odd a.xs.now a.ys.now) 512 a.out.now l.invariant.written end c.requires.2
+    all-filled (product_sum a.a a.b a.odd a.xs.now a.ys.now) 512 a.out.now l.invariant.written end c.requires.2

@@ -3,7 +3,7 @@
 use native.Mathlib.Nat.{mod-lt, div-lt_iff_lt-mul}
 use native.Mathlib.Omega.{arith}
 use Prim.Native.Nat.{◌*◌}
-use Rattle.vec3.specs.Turns.{directionOf}
+use Rattle.vec3.specs.Turns.{direction_of}
 use Rattle.vec3.proofs.turns.direction_of.Goals as goal
 
 pub part-requires : goal.part-requires
@@ -13,5 +13,5 @@ pub in_octant-requires : goal.in_octant-requires
 in_octant-requires c = (div-lt_iff_lt-mul {k = c.args.n} {x = 8 * c.args.k} (omega arith)).1 (omega arith)
 
 pub returns : goal.returns
-unfolding directionOf
+unfolding direction_of
 returns c = cc

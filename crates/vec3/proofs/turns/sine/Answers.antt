@@ -2,9 +2,9 @@
 -- patterns. Assumes nothing.
 use mathlib.Core.Path.{refl}
 use lib.Ieee.{of_int, of_bits}
-use Rattle.vec3.specs.Turns.{sineOf, bracket, fraction, minusFraction, whole}
+use Rattle.vec3.specs.Turns.{sine_of, bracket, fraction, minus_fraction, whole}
 use Rattle.vec3.proofs.turns.sine.Goals as goal
 
 pub returns : goal.returns
-unfolding sineOf bracket fraction minusFraction whole of_int of_bits
+unfolding sine_of bracket fraction minus_fraction whole of_int of_bits
 returns c = refl

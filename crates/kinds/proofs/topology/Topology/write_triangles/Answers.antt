@@ -5,7 +5,7 @@ use mathlib.Core.List.{List}
 use lib.ListN.{length}
 use Rattle.surface.specs.Triangles.{Triangle, flatten}
 use Rattle.laws.specs.Overwrite.{placed}
-use Rattle.surface.specs.Whole.{surfaceTriangles, placeable}
+use Rattle.surface.specs.Whole.{surface_triangles, placeable}
 use Rattle.surface.specs.declared.whole.Surface.{Surface}
 use Rattle.kinds.specs.Kinds.{permitted}
 use Rattle.kinds.proofs.AsSurface.{as-surface, placeable-writable, not-writable}
@@ -21,7 +21,7 @@ returns-then-is_permitted c = let a = c.args in
           ∙ ap (λ (x : Surface). placeable x a.first (length a.out.now)) s
           ∙ placeable-writable a.self a.first (length a.out.now) p;
       written = w.ensures.written
-          ∙ ap (λ (x : Surface). placed w.result (flatten (surfaceTriangles x a.first)) a.out.now) s
+          ∙ ap (λ (x : Surface). placed w.result (flatten (surface_triangles x a.first)) a.out.now) s
           ∙ ap (λ (l : List Triangle). placed w.result (flatten l) a.out.now) (sym (as-surface a.self a.first));
     }
 

@@ -6,19 +6,19 @@ use native.Mathlib.Omega.{arith}
 use lib.ListN.{length}
 use Rattle.laws.specs.Overwrite.{overwrite}
 use Rattle.surface.specs.Triangles.{flatten}
-use Rattle.surface.specs.Whole.{chainOf, ringSize, gridSize, surfaceGrid}
+use Rattle.surface.specs.Whole.{chain_of, ring_size, grid_size, surface_grid}
 use Rattle.surface.specs.declared.caps.End.TheVariants.{Bottom}
 use Rattle.surface.proofs.Flatten.{three-written}
-use Rattle.surface.proofs.Pieces.{length-cap, length-grid, bottomOf, top_of, capped-parts}
+use Rattle.surface.proofs.Pieces.{length-cap, length-grid, bottom_of, top_of, capped-parts}
 use Rattle.surface.proofs.Room.{capped_fits}
 use Rattle.surface.proofs.whole.Surface.put_capped.Goals as goal
 use Rattle.surface.proofs.whole.Surface.put_capped.Goals.{After-ring_count}
 
 -- how far the top pole and the last ring lie past the first ring
-to-pole : (c : After-ring_count) → c.ring_count.result * c.ring_size-ring.result ≡ gridSize c.args.self
+to-pole : (c : After-ring_count) → c.ring_count.result * c.ring_size-ring.result ≡ grid_size c.args.self
 to-pole c = λ i. c.ring_count.ensures i * c.ring_size-ring.ensures i
 
-to-rim : (c : After-ring_count) → let s = c.args.self in s.rows * c.ring_size-ring.result ≡ s.rows * ringSize s
+to-rim : (c : After-ring_count) → let s = c.args.self in s.rows * c.ring_size-ring.result ≡ s.rows * ring_size s
 to-rim c = ap (λ k. c.args.self.rows * k) c.ring_size-ring.ensures
 
 -- the numbers and the places are within bounds
@@ -63,13 +63,13 @@ returns c = let m = (goal.at.returns c).After-ring_count in
     let ring = c.ring_size-ring.result in
     let pole = to-pole m in
     let rim = to-rim m in
-    let bottom = bottomOf s a.first in
-    let grid = surfaceGrid s (a.first + 1) in
+    let bottom = bottom_of s a.first in
+    let grid = surface_grid s (a.first + 1) in
     three-written bottom grid (top_of s a.first (c.ring_count.result * ring) (s.rows * ring)) t₀
     c.write_cap.ensures
     c.write_grid.ensures
     c.write_cap-2.ensures
     (sym (length-cap Bottom s.columns a.first (a.first + 1)))
-    (omega (arith, length-grid s.split s.round s.columns (chainOf s.ending) s.rows (a.first + 1)))
+    (omega (arith, length-grid s.split s.round s.columns (chain_of s.ending) s.rows (a.first + 1)))
     ∙ (λ i. overwrite 0 (flatten (bottom ++ (grid ++ top_of s a.first (pole i) (rim i)))) t₀)
     ∙ ap (λ l. overwrite 0 (flatten l) t₀) (sym (capped-parts s a.first c.requires.capped))

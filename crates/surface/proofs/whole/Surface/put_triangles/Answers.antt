@@ -4,13 +4,13 @@ use mathlib.Core.Bool.{false}
 use lib.ListN.{length}
 use Rattle.laws.specs.Overwrite.{overwrite}
 use Rattle.surface.specs.Triangles.{flatten}
-use Rattle.surface.specs.Whole.{isCapped}
+use Rattle.surface.specs.Whole.{is_capped}
 use Rattle.surface.proofs.Pieces.{bare_parts}
 use Rattle.surface.proofs.Room.{bare-fits}
 use Rattle.surface.proofs.whole.Surface.put_triangles.Goals as goal
 use Rattle.surface.proofs.whole.Surface.put_triangles.Goals.{Else-is_capped}
 
-is-bare : (c : Else-is_capped) → isCapped c.args.self.ending ≡ false
+is-bare : (c : Else-is_capped) → is_capped c.args.self.ending ≡ false
 is-bare c = sym c.is_capped.ensures ∙ c.if-is_capped.false
 
 pub write_grid-requires : goal.write_grid-requires
