@@ -17,7 +17,8 @@ pub permits : {x p : Bool} → x ≡ p → not x ≡ false → p ≡ true
 permits {x} e h = sym e ∙ not-false x h
 
 module _ {A : Type 0} where
-  test-passed : (p : Bool) (k : ℕ) {a : A} (rest : Answer A) → accepted a ≡ cond p rest (refused k) → (p ≡ true) × (accepted a ≡ rest)
+  test-passed : (p : Bool) (k : ℕ) {a : A} (rest : Answer A) → accepted a ≡ cond p rest (refused k)
+      → (p ≡ true) × (accepted a ≡ rest)
   test-passed true k rest h = (refl, h)
   test-passed false k rest h = let z : ◌≡◌ {A = ℕ} 0 1 = cc in absurd (omega arith)
 
@@ -29,7 +30,8 @@ module _ {A : Type 0} where
       let rest = accepted-by ts b first.1 in
       (rest.0, (first.0, rest.1))
 
-  test-accepted : (p : Bool) (k : ℕ) (rest : Answer A) → is_accepted (cond p rest (refused k)) ≡ true → (p ≡ true) × (is_accepted rest ≡ true)
+  test-accepted : (p : Bool) (k : ℕ) (rest : Answer A) → is_accepted (cond p rest (refused k)) ≡ true
+      → (p ≡ true) × (is_accepted rest ≡ true)
   test-accepted true k rest h = (refl, h)
   test-accepted false k rest h = absurd (subst T (sym h) tt)
 
@@ -47,9 +49,11 @@ module _ {A : Type 0} where
       passed-by ts us a h.1 ∙ sym (ap (λ (p : Bool). cond p (first_of (ts ++ us) a) (refused t.number)) h.0)
 
   -- the same, where other tests come first
-  pub passed-within : (ts us vs : List Test) (a : A) → AllPermitted us → first_of (ts ++ vs) a ≡ first_of (ts ++ (us ++ vs)) a
+  pub passed-within : (ts us vs : List Test) (a : A) → AllPermitted us
+      → first_of (ts ++ vs) a ≡ first_of (ts ++ (us ++ vs)) a
   passed-within [] us vs a h = passed-by us vs a h
-  passed-within (t ∷ ts) us vs a h = ap (λ (r : Answer A). cond t.permitted r (refused t.number)) (passed-within ts us vs a h)
+  passed-within (t ∷ ts) us vs a h =
+      ap (λ (r : Answer A). cond t.permitted r (refused t.number)) (passed-within ts us vs a h)
 
 -- a refusal is the same whatever would be accepted, and whichever tests follow
 refused-first : {A B : Type 0} (p : Bool) (j : ℕ) {k : ℕ} (r : Answer A) (s : Answer B) →
@@ -57,9 +61,11 @@ refused-first : {A B : Type 0} (p : Bool) (j : ℕ) {k : ℕ} (r : Answer A) (s 
 refused-first true j r s next h = next h
 refused-first false j r s next h = cc
 
-pub refused-by : {A B : Type 0} (ts us : List Test) {k : ℕ} (a : A) (b : B) → refused k ≡ first_of ts a → refused k ≡ first_of (ts ++ us) b
+pub refused-by : {A B : Type 0} (ts us : List Test) {k : ℕ} (a : A) (b : B) → refused k ≡ first_of ts a
+    → refused k ≡ first_of (ts ++ us) b
 refused-by [] us a b h = let z : ◌≡◌ {A = ℕ} 0 1 = cc in absurd (omega arith)
-refused-by (t ∷ ts) us a b h = refused-first t.permitted t.number (first_of ts a) (first_of (ts ++ us) b) (refused-by ts us a b) h
+refused-by (t ∷ ts) us a b h =
+    refused-first t.permitted t.number (first_of ts a) (first_of (ts ++ us) b) (refused-by ts us a b) h
 
 -- no test of a list has this number
 abbrev pub Others : ℕ → List Test → Type 0
@@ -72,7 +78,8 @@ other-first true j number rest other next h = next h
 other-first false j number {k} rest other next h = let same : k ≡ j = cc in ap (λ (i : ℕ). eqb i number) same ∙ other
 
 -- then no refusal of that list has it
-pub other-than : {A : Type 0} (number : ℕ) (ts : List Test) {k : ℕ} (a : A) → Others number ts → refused k ≡ first_of ts a → eqb k number ≡ false
+pub other-than : {A : Type 0} (number : ℕ) (ts : List Test) {k : ℕ} (a : A) → Others number ts
+    → refused k ≡ first_of ts a → eqb k number ≡ false
 other-than number [] a others h = let z : ◌≡◌ {A = ℕ} 0 1 = cc in absurd (omega arith)
 other-than number (t ∷ ts) a others h =
     other-first t.permitted t.number number (first_of ts a) others.0 (other-than number ts a others.1) h

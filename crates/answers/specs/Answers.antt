@@ -2,7 +2,8 @@
 -- whom'). Definitions only.
 use Rattle.std.specs.Prelude.{◌≡◌, Bool, true, false, cond, List, [], ◌∷◌, ℕ}
 use Rattle.answers.specs.declared.refusal.Refusal.{Refusal}
-use Rattle.answers.specs.declared.refusal.Refusal.TheVariants.{DamagedTable, NoEntry, NoVertices, NoTriangles, PastEnd}
+use Rattle.answers.specs.declared.refusal.Refusal.TheVariants.{DamagedTable, NoEntry, NoVertices, NoTriangles}
+use Rattle.answers.specs.declared.refusal.Refusal.TheVariants.{PastEnd}
 use Rattle.answers.specs.declared.refusal.Refusal.TheVariants.{CurveVertices, CurveNotFinite, Segment, Fold}
 use Rattle.answers.specs.declared.refusal.Refusal.TheVariants.{Divisions, Layers, Size, NotFinite}
 use Rattle.answers.specs.declared.outcome.Outcome.{Outcome}

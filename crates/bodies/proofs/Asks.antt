@@ -39,7 +39,8 @@ loop-asks n r c table room h fits along =
     let most = vertices-most (Torus n r) (vertices_in c) h.0 in
     (record { segment = omega arith; most = most; table = along }, b.0.1, omega arith)
 
-pub asks : (d : Description) (c table : List Float) (room : ℕ) → ShapePermitted d (vertices_in c) → 3 * vertex_count (topology_of d (vertices_in c)) ≤ room
+pub asks : (d : Description) (c table : List Float) (room : ℕ) → ShapePermitted d (vertices_in c)
+    → 3 * vertex_count (topology_of d (vertices_in c)) ≤ room
     → CurveDirections d c table → Asks d c table room
 asks (Ribbon w) c table room h fits along =
     let b = shape-bounds (Ribbon w) (vertices_in c) h in

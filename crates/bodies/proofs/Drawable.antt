@@ -32,7 +32,8 @@ module _ (d : Description) (c : List Float) (room : ℕ) where
   same_count shape = ap vertex_count (accepted-by (shape_tests d N) (topology_of d N) shape).0
 
   -- of an accepted shape, the room decides
-  pub room-decides : {body : Topology} {r : Bool} → length c % 3 ≡ 0 → accepted body ≡ shape_of d N → r ≡ fits (vertex_count body) room → r ≡ drawable d c room
+  pub room-decides : {body : Topology} {r : Bool} → length c % 3 ≡ 0 → accepted body ≡ shape_of d N
+      → r ≡ fits (vertex_count body) room → r ≡ drawable d c room
   unfolding drawable
   room-decides whole shape is =
       is

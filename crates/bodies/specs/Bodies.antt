@@ -25,7 +25,8 @@ use Rattle.seamless_torus.specs.Polyloop3.{ends_of, ends_finite, twist_of, seaml
 
 -- What stands at curve vertex g: a ribbon's pair, a ring of a tube or a torus, of a capsule also
 -- its poles and caps; of a closed cylinder, which has no curve, ring g, and the pole at an end. An
--- open curve of N vertices has m = N − 1 segments, and m + 1 parts. Only a seamless torus goes by k.
+-- open curve of N vertices has m = N − 1 segments, and m + 1 parts. Only a seamless torus goes by
+-- k.
 abbrev pub part_of : Twist → Description → List Float → ℕ → List Float
 part_of k (Ribbon w) c = ribbon_part w (vertices_in c - 1) c
 part_of k (Tube n r) c = tube_ring n r (vertices_in c - 1) c

@@ -1,6 +1,7 @@
 -- The table of directions: its length, each of its points, also in a buffer at whose front it was
 -- written, and that it has the curve's own folds. Assumes nothing.
-use Rattle.std.proofs.Common.{◌≡◌, refl, sym, ap, ◌∙◌, not, List, ℕ, ◌+◌, ◌-◌, ◌*◌, ◌≤◌, ◌<◌, zero-add, mod-lt, arith, lt-ltb, Float, length, get_or}
+use Rattle.std.proofs.Common.{◌≡◌, refl, sym, ap, ◌∙◌, not, List, ℕ, ◌+◌, ◌-◌, ◌*◌, ◌≤◌, ◌<◌, zero-add, mod-lt}
+use Rattle.std.proofs.Common.{arith, lt-ltb, Float, length, get_or}
 use Rattle.std.specs.Float.{nan}
 use Rattle.laws.specs.Blocks.{length-blocks, get_or-blocks}
 use Rattle.laws.specs.Every.{every-cong}

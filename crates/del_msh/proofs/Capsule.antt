@@ -28,7 +28,8 @@ use Rattle.del_msh.specs.Polyline3 as rust
 use Rattle.del_msh.specs.Adapted.{chunks, floats}
 use Rattle.del_msh.proofs.Usize.{minus_is}
 use Rattle.del_msh.proofs.Floats.{floats-append}
-use Rattle.del_msh.proofs.Rings.{whole-turn, rings_points, length-rings, rings-floats, point-assigned-by-three, last-assigned-by-three, rings-assigned, behind}
+use Rattle.del_msh.proofs.Rings.{whole-turn, rings_points, length-rings, rings-floats, point-assigned-by-three}
+use Rattle.del_msh.proofs.Rings.{last-assigned-by-three, rings-assigned, behind}
 use Rattle.del_msh.proofs.ClosedCylinder.{yup-length, yup-triangles}
 use Rattle.del_msh.proofs.OpenFrames.{one_less, vertex, framez-is, ex-at, ey-at}
 use Rattle.del_msh.proofs.Tube.{side, side-is}
@@ -109,7 +110,8 @@ module _ (outside : Outside) (c : List Float) (m : ℕ) (is : vertices_in c ≡ 
   unfolding cos sin bottom_vertex paper.axes_of
   below-is g i l =
       let first : minus outside L 1 ≡ L - 1 = minus_is outside L 1 (L - 1) (omega arith) in
-      let ring : minus outside (minus outside L 1) g ≡ L - 1 - g = ap (λ (k : ℕ). minus outside k g) first ∙ minus_is outside (L - 1) g (L - 1 - g) (omega arith) in
+      let ring : minus outside (minus outside L 1) g ≡ L - 1 - g =
+      ap (λ (k : ℕ). minus outside k g) first ∙ minus_is outside (L - 1) g (L - 1 - g) (omega arith) in
       let p = vertex outside c m is h 0 0 (omega arith) refl in
       let x = ex-at outside c m is h 0 0 (omega arith) refl in
       let y = ey-at outside c m is h 0 0 (omega arith) refl in
@@ -157,10 +159,12 @@ module _ (outside : Outside) (c : List Float) (m : ℕ) (is : vertices_in c ≡ 
       let e = segments in
       let count : K * n ≡ (m - 1) * n = ap (λ (k : ℕ). k * n) between in
       let rings : S + 1 ≡ L + (m - 1) + L = ap (λ (k : ℕ). k + 1) layers ∙ omega arith in
-      let asserted : minus outside (2 * L + M) 1 ≡ L + (m - 1) + L = minus_is outside (2 * L + M) 1 (L + (m - 1) + L) (omega arith) in
+      let asserted : minus outside (2 * L + M) 1 ≡ L + (m - 1) + L =
+      minus_is outside (2 * L + M) 1 (L + (m - 1) + L) (omega arith) in
       let room = (L + (m - 1) + L) * n + 2 in
       let t₀ = (cylinder-closed-end-yup outside one one n S true).1 in
-      let long : length t₀ ≡ room = yup-length outside one one n S true three (omega arith) ∙ ap (λ (k : ℕ). n * k + 2) rings ∙ omega arith in
+      let long : length t₀ ≡ room =
+      yup-length outside one one n S true three (omega arith) ∙ ap (λ (k : ℕ). n * k + 2) rings ∙ omega arith in
       let a = length-rings L below n in
       let b = length-rings K inner n in
       let d = length-rings L above n in
@@ -169,7 +173,8 @@ module _ (outside : Outside) (c : List Float) (m : ℕ) (is : vertices_in c ≡ 
       (last-assigned-by-three outside room (1 + (L + (m - 1) + L) * n) _ (omega arith) top-is)
       (behind room (1 + (L + (m - 1)) * n) ((bottom ∷ []) ++ A ++ B K) C t₀ long
       (rings-assigned room L n (1 + (L + (m - 1)) * n) above _ _ (omega arith) (λ g i hg hi l t.
-      let row : minus outside (g + M + L) 1 ≡ L + (m - 1) + g = minus_is outside (g + M + L) 1 (L + (m - 1) + g) (omega arith) in
+      let row : minus outside (g + M + L) 1 ≡ L + (m - 1) + g =
+      minus_is outside (g + M + L) 1 (L + (m - 1) + g) (omega arith) in
       point-assigned-by-three room (1 + minus outside (g + M + L) 1 * n + i) (1 + (L + (m - 1)) * n + g * n + i) t l
       (ap (λ (k : ℕ). 1 + k * n + i) row ∙ omega arith) (above-is g i)))
       (behind room (1 + L * n) ((bottom ∷ []) ++ A) (B K) t₀ long

@@ -32,7 +32,8 @@ chunk outside (x ∷ y ∷ z ∷ rest) (suc k) h =
     ∙ (λ j. xyz (get_or c (three j) nan) (get_or c (four j) nan) (get_or c (five j) nan))
 
 -- `vtx2xyz[k]`, under another name of k
-pub vertex-at : (outside : Outside) (c : List Float) (k k' : ℕ) → k' < vertices_in c → k ≡ k' → read outside (chunks c) k ≡ vertex_of c k'
+pub vertex-at : (outside : Outside) (c : List Float) (k k' : ℕ) → k' < vertices_in c → k ≡ k'
+    → read outside (chunks c) k ≡ vertex_of c k'
 unfolding vertex_of
 vertex-at outside c k k' h same =
     let within : k < length (chunks c) = omega (arith, length-chunks c) in

@@ -13,4 +13,5 @@ floats-append (p ∷ a) b = ap (λ (l : List Float). p.x ∷ p.y ∷ p.z ∷ l) 
 
 pub floats-blocks : (n : ℕ) (f : ℕ → List Point) → floats (blocks n f) ≡ blocks n (λ k. floats (f k))
 floats-blocks zero f = refl
-floats-blocks (suc n) f = floats-append (blocks n f) (f n) ∙ ap (λ (l : List Float). l ++ floats (f n)) (floats-blocks n f)
+floats-blocks (suc n) f =
+    floats-append (blocks n f) (f n) ∙ ap (λ (l : List Float). l ++ floats (f n)) (floats-blocks n f)

@@ -26,10 +26,12 @@ pub length-points : (n : ℕ) (f : ℕ → Point) → length (points_of n f) ≡
 length-points n f = length-blocks 1 n (λ g. f g ∷ []) (λ g _. refl) ∙ omega arith
 
 pub read-points_of : (outside : Outside) (n : ℕ) (f : ℕ → Point) (g : ℕ) → g < n → read outside (points_of n f) g ≡ f g
-read-points_of outside n f g h = get_or-blocks 1 n (λ k. f k ∷ []) g 0 g outside.point (λ k. refl) h (omega arith) (omega arith)
+read-points_of outside n f g h =
+    get_or-blocks 1 n (λ k. f k ∷ []) g 0 g outside.point (λ k. refl) h (omega arith) (omega arith)
 
 -- the same where they begin a longer list
-pub written_at : (outside : Outside) (n : ℕ) (f : ℕ → Point) (t₀ : List Point) {t : List Point} (g : ℕ) → g < n → n ≤ length t₀
+pub written_at : (outside : Outside) (n : ℕ) (f : ℕ → Point) (t₀ : List Point) {t : List Point} (g : ℕ) → g < n
+    → n ≤ length t₀
     → t ≡ overwrite 0 (points_of n f) t₀ → read outside t g ≡ f g
 written_at outside n f t₀ g h room is =
     (λ j. read outside (is j) (sym (zero-add g) j))
@@ -51,7 +53,8 @@ module _ (outside : Outside) (chain : Chain) (count : ℕ) (c : List Float) wher
       let e : suc g - 1 ≡ g = omega arith in
       λ j. (transported (frame_of chain count c (e j)) (segment_direction chain count c (e j)) (segment_direction chain count c (suc g))).ex
 
-  pub frames-carried : (room n : ℕ) (turn : ℕ → List Point → List Point) (first : Point) → 1 ≤ n → n ≤ room → first ≡ frame 0
+  pub frames-carried : (room n : ℕ) (turn : ℕ → List Point → List Point) (first : Point) → 1 ≤ n → n ≤ room
+      → first ≡ frame 0
       → ((i : ℕ) → 1 ≤ i → i < n → (t : List Point) → turn i t ≡ change t i (λ old. carried_on i (read outside t (i - 1))))
       → turns 1 n turn (change (vec zeros room) 0 (λ old. first)) ≡ overwrite 0 (points_of n frame) (vec zeros room)
   frames-carried room n turn first h fits is each =

@@ -37,7 +37,8 @@ module _ {ℓ} {A : Type ℓ} where
   changed-twice (x ∷ xs) zero f g = refl
   changed-twice (x ∷ xs) (suc i) f g = ap (λ (r : List A). x ∷ r) (changed-twice xs i f g)
 
-  changed-to : (f : A → A) (y : A) → ((x : A) → f x ≡ y) → (i : ℕ) (xs : List A) → changed xs i f ≡ overwrite i (y ∷ []) xs
+  changed-to : (f : A → A) (y : A) → ((x : A) → f x ≡ y) → (i : ℕ) (xs : List A)
+      → changed xs i f ≡ overwrite i (y ∷ []) xs
   changed-to f y same i [] = refl
   changed-to f y same zero (x ∷ xs) = λ j. same x j ∷ sym (overwrite-none zero xs) j
   changed-to f y same (suc i) (x ∷ xs) = ap (λ (r : List A). x ∷ r) (changed-to f y same i xs)
@@ -47,14 +48,16 @@ module _ {ℓ} {A : Type ℓ} where
   change-is xs i f h = rw (lt-ltb i (length xs) h)
 
   -- `xs[p] = v` under other names of its place and its value
-  pub assigned : (room p q : ℕ) {v w : A} (t : List A) → q < room → p ≡ q → v ≡ w → length t ≡ room → assign t p v ≡ overwrite q (w ∷ []) t
+  pub assigned : (room p q : ℕ) {v w : A} (t : List A) → q < room → p ≡ q → v ≡ w → length t ≡ room
+      → assign t p v ≡ overwrite q (w ∷ []) t
   assigned room p q {v} t h place is long =
       change-is t p (λ old. v) (omega arith)
       ∙ changed-to (λ old. v) v (λ x. refl) p t
       ∙ (λ j. overwrite (place j) (is j ∷ []) t)
 
   -- two elements, one after the other
-  pub two-assigned : (room p q : ℕ) {v w v' w' : A} (t : List A) → q + 1 < room → p ≡ q → v ≡ v' → w ≡ w' → length t ≡ room
+  pub two-assigned : (room p q : ℕ) {v w v' w' : A} (t : List A) → q + 1 < room → p ≡ q → v ≡ v' → w ≡ w'
+      → length t ≡ room
       → assign (assign t p v) (p + 1) w ≡ overwrite q (v' ∷ w' ∷ []) t
   two-assigned room p q {v} {w} {v'} {w'} t h place is so long =
       ap (λ (l : List A). assign l (p + 1) w) (assigned room p q t (omega arith) place is long)
@@ -73,7 +76,8 @@ module _ {ℓ} {A : Type ℓ} where
       ∙ changed-to (λ x. h (both x)) y same i xs
 
   -- A loop that writes block i of c elements at place at + i * c, whatever else it reads.
-  pub writes : (a n at c : ℕ) (f : ℕ → List A) (turn : ℕ → List A → List A) (t₀ : List A) → a ≤ n → ((k : ℕ) → length (f k) ≡ c)
+  pub writes : (a n at c : ℕ) (f : ℕ → List A) (turn : ℕ → List A → List A) (t₀ : List A) → a ≤ n
+      → ((k : ℕ) → length (f k) ≡ c)
       → ((i : ℕ) → a ≤ i → i < n → (t : List A) → t ≡ overwrite at (blocks i f) t₀ → turn i t ≡ overwrite (at + i * c) (f i) t)
       → turns a n turn (overwrite at (blocks a f) t₀) ≡ overwrite at (blocks n f) t₀
   writes a n at c f turn t₀ h sized each =
@@ -91,7 +95,8 @@ module _ {ℓ} {A : Type ℓ} where
       ∙ writes 0 n at c f turn t₀ (omega arith) sized (λ i l u t is. each i u t (ap length is ∙ length-overwrite at (blocks i f) t₀))
 
   -- A loop that pushes block i.
-  pub pushes : (n : ℕ) (f : ℕ → List A) (turn : ℕ → List A → List A) (t₀ : List A) → ((i : ℕ) → i < n → (t : List A) → turn i t ≡ t ++ f i)
+  pub pushes : (n : ℕ) (f : ℕ → List A) (turn : ℕ → List A → List A) (t₀ : List A)
+      → ((i : ℕ) → i < n → (t : List A) → turn i t ≡ t ++ f i)
       → turns 0 n turn t₀ ≡ t₀ ++ blocks n f
   pushes n f turn t₀ each =
       ap (turns 0 n turn) (sym (append-nil t₀))

@@ -85,7 +85,8 @@ module _ (outside : Outside) (c : List Float) (m : ℕ) (is : vertices_in c ≡ 
   ex-last = sym (ap (λ (b : Bool). (cond b (frame_of Open m c (m - 1)) (frame_of Open m c m)).ex) (eq-eqb m m refl))
 
   -- `vtx2bin[num_vtx - 1] = vtx2bin[num_vtx - 2]`, the second place under another name
-  last-copied : (q : ℕ) → q ≡ m - 1 → (t : List Point) → t ≡ overwrite 0 (points_of m (frame outside Open m c)) (vec zeros (m + 1))
+  last-copied : (q : ℕ) → q ≡ m - 1 → (t : List Point)
+      → t ≡ overwrite 0 (points_of m (frame outside Open m c)) (vec zeros (m + 1))
       → change t m (λ old. read outside t q) ≡ points_of (m + 1) ex
   last-copied q same t is =
       let room = m + 1 in
@@ -126,5 +127,7 @@ module _ (outside : Outside) (c : List Float) (m : ℕ) (is : vertices_in c ≡ 
       assigned room g (0 + g * 1) t (omega arith) (omega arith) (λ j. cross_of (framez-is g l j) (ex-at g g l refl j)) (as_long ∙ long))
       ∙ overwrite-all (points_of room (paper.vtx2framey m c)) t₀ (omega (arith, length-points room (paper.vtx2framey m c))))
 
-  pub ey-at : (k g : ℕ) → g < m + 1 → k ≡ g → read outside (rust.vtx2framey outside curve (rust.vtx2framex outside curve)) k ≡ paper.vtx2framey m c g
-  ey-at k g l same = (λ j. read outside (framey-is j) (same j)) ∙ read-points_of outside (m + 1) (paper.vtx2framey m c) g l
+  pub ey-at : (k g : ℕ) → g < m + 1 → k ≡ g
+      → read outside (rust.vtx2framey outside curve (rust.vtx2framex outside curve)) k ≡ paper.vtx2framey m c g
+  ey-at k g l same =
+      (λ j. read outside (framey-is j) (same j)) ∙ read-points_of outside (m + 1) (paper.vtx2framey m c) g l

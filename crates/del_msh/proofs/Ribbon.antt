@@ -25,7 +25,8 @@ module _ (outside : Outside) (c : List Float) (m : ℕ) (is : vertices_in c ≡ 
   abbrev pair : ℕ → List Point
   pair g = vertex_of c g ∷ sum_of (vertex_of c g) (scaled (paper.vtx2framex m c g).ex width) ∷ []
 
-  ribbon-points : (rust.to-trimesh3-ribbon outside (chunks c) (rust.vtx2framex outside (chunks c)) width).1 ≡ blocks (m + 1) pair
+  ribbon-points : (rust.to-trimesh3-ribbon outside (chunks c) (rust.vtx2framex outside (chunks c)) width).1
+      ≡ blocks (m + 1) pair
   unfolding rust.to-trimesh3-ribbon
   ribbon-points =
       let room = (m + 1) * 2 in

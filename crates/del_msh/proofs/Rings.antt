@@ -36,7 +36,8 @@ length-ring vertex n g = length-blocks 1 n (λ i. vertex g (turn_of i n) ∷ [])
 pub length-rings : (k : ℕ) (vertex : ℕ → Direction → Point) (n : ℕ) → length (rings_points k vertex n) ≡ k * n
 length-rings k vertex n = length-blocks n k (λ g. ring_points (vertex g) n) (λ g _. length-ring vertex n g)
 
-pub rings-floats : (k : ℕ) (vertex : ℕ → Direction → Point) (n : ℕ) → floats (rings_points k vertex n) ≡ blocks k (λ g. ring_of (vertex g) n)
+pub rings-floats : (k : ℕ) (vertex : ℕ → Direction → Point) (n : ℕ)
+    → floats (rings_points k vertex n) ≡ blocks k (λ g. ring_of (vertex g) n)
 rings-floats k vertex n =
     floats-blocks k (λ g. ring_points (vertex g) n)
     ∙ blocks-cong k (λ g. floats (ring_points (vertex g) n)) (λ g. ring_of (vertex g) n) (λ g _. floats-blocks n (λ i. vertex g (turn_of i n) ∷ []))
@@ -49,8 +50,10 @@ point-assigned-by-three room p q {v} t h place is long =
     ∙ (λ j. overwrite (place j) (is j ∷ []) t)
 
 -- the last point, at `vtx2xyz.len() - 1`
-pub last-assigned-by-three : (outside : Outside) (room q : ℕ) {v w : Point} (t : List Point) → q + 1 ≡ room → v ≡ w → length t ≡ room
-    → (let p = minus outside (length t) 1 in assign_z (assign_y (assign_x t p v.x) p v.y) p v.z) ≡ overwrite q (w ∷ []) t
+pub last-assigned-by-three : (outside : Outside) (room q : ℕ) {v w : Point} (t : List Point) → q + 1 ≡ room
+    → v ≡ w → length t ≡ room
+    → (let p =
+    minus outside (length t) 1 in assign_z (assign_y (assign_x t p v.x) p v.y) p v.z) ≡ overwrite q (w ∷ []) t
 last-assigned-by-three outside room q t h is long =
     point-assigned-by-three room (minus outside (length t) 1) q t (omega arith) (minus_is outside (length t) 1 q (omega arith)) is long
 
@@ -75,7 +78,8 @@ rings-pushed k n vertex turn t₀ each =
     pushes k (λ g. ring_points (vertex g) n) _ t₀ (λ g hg t. pushes n (λ i. vertex g (turn_of i n) ∷ []) (turn g) t (λ i hi t'. each g i hg hi t'))
 
 -- a part written behind those that begin the list
-pub behind : (room k : ℕ) (new more t₀ : List Point) {t t' : List Point} → length t₀ ≡ room → (length t ≡ room → t' ≡ overwrite k more t)
+pub behind : (room k : ℕ) (new more t₀ : List Point) {t t' : List Point} → length t₀ ≡ room
+    → (length t ≡ room → t' ≡ overwrite k more t)
     → t ≡ overwrite 0 new t₀ → length new ≡ k → t' ≡ overwrite 0 (new ++ more) t₀
 behind room k new more t₀ {t} long second first sized =
     written_behind 0 new more t₀ first sized

@@ -82,7 +82,8 @@ permitted-asked (Tube n r) N h = let b = shape-bounds (Tube n r) N h in omega (a
 permitted-asked (Capsule n L r) N h = let b = shape-bounds (Capsule n L r) N h in (b.0.0, omega (arith, b.1.0), b.3)
 permitted-asked (Torus n r) N h = let b = shape-bounds (Torus n r) N h in omega (arith, b.1.0)
 permitted-asked (SeamlessTorus n r) N h = let b = shape-bounds (SeamlessTorus n r) N h in omega (arith, b.1.0)
-permitted-asked (ClosedCylinder n S centred r l) N h = let b = shape-bounds (ClosedCylinder n S centred r l) N h in (b.0.0, b.1.0)
+permitted-asked (ClosedCylinder n S centred r l) N h =
+    let b = shape-bounds (ClosedCylinder n S centred r l) N h in (b.0.0, b.1.0)
 
 -- So it holds of all that `check` accepts, and with it of all that add does.
 pub rust-body-accepted : (outside : Outside) (arctangent : Float → Float → Twist) (d : Description) (c : List Float)

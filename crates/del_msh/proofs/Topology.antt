@@ -11,24 +11,30 @@ use Rattle.laws.specs.Overlaps.{overwrite-all}
 use Rattle.laws.specs.Products.{row_within}
 use Rattle.laws.specs.Blocks.{blocks, length-blocks}
 use Rattle.surface.specs.Triangles.{Triangle, triangle}
-use Rattle.kinds.specs.Lists.{next, ring, layer_quad, layers, bottom_triangles, top_triangles, closed_triangles, tube_quad, tube_triangles}
+use Rattle.kinds.specs.Lists.{next, ring, layer_quad, layers, bottom_triangles, top_triangles}
+use Rattle.kinds.specs.Lists.{closed_triangles, tube_quad, tube_triangles}
 use Rattle.del_msh.specs.Vectors.{vec}
-use Rattle.del_msh.specs.Arrays.{Outside, minus, quotient, remainder, zero_triangle, assign0, assign1, assign2, first, second, third}
+use Rattle.del_msh.specs.Arrays.{Outside, minus, quotient, remainder, zero_triangle, assign0, assign1, assign2}
+use Rattle.del_msh.specs.Arrays.{first, second, third}
 use Rattle.del_msh.specs.Trimesh3Primitive.{cylinder-open-end-set-topology, cylinder-closed-end-topology}
 use Rattle.del_msh.proofs.Usize.{minus_is, quotient_is, remainder_is}
 use Rattle.del_msh.proofs.Loops.{assigned-by-three, fills, pushes}
 
 -- a triangle, and the two of a quad, pushed under other names of their indices
-triangle-pushed : (t : List Triangle) {a b c a' b' c' : ℕ} → a ≡ a' → b ≡ b' → c ≡ c' → t ++ (triangle a b c ∷ []) ≡ t ++ (triangle a' b' c' ∷ [])
+triangle-pushed : (t : List Triangle) {a b c a' b' c' : ℕ} → a ≡ a' → b ≡ b' → c ≡ c'
+    → t ++ (triangle a b c ∷ []) ≡ t ++ (triangle a' b' c' ∷ [])
 triangle-pushed t p q r = λ j. t ++ (triangle (p j) (q j) (r j) ∷ [])
 
-pub quad-pushed : (t : List Triangle) {a b c d e f a' b' c' d' e' f' : ℕ} → a ≡ a' → b ≡ b' → c ≡ c' → d ≡ d' → e ≡ e' → f ≡ f'
+pub quad-pushed : (t : List Triangle) {a b c d e f a' b' c' d' e' f' : ℕ} → a ≡ a' → b ≡ b' → c ≡ c' → d ≡ d'
+    → e ≡ e' → f ≡ f'
     → (t ++ (triangle a b c ∷ [])) ++ (triangle d e f ∷ []) ≡ t ++ (triangle a' b' c' ∷ triangle d' e' f' ∷ [])
-quad-pushed t p q r u v w = append_assoc t _ _ ∙ (λ j. t ++ (triangle (p j) (q j) (r j) ∷ triangle (u j) (v j) (w j) ∷ []))
+quad-pushed t p q r u v w =
+    append_assoc t _ _ ∙ (λ j. t ++ (triangle (p j) (q j) (r j) ∷ triangle (u j) (v j) (w j) ∷ []))
 
 -- `(ic + 0) % n` is ic
 at-itself : (outside : Outside) (i n : ℕ) → i < n → remainder outside (i + 0) n ≡ i
-at-itself outside i n h = remainder_is outside (i + 0) n (omega arith) ∙ ap (λ (k : ℕ). k % n) (add-zero i) ∙ mod-eq_of_lt h
+at-itself outside i n h =
+    remainder_is outside (i + 0) n (omega arith) ∙ ap (λ (k : ℕ). k % n) (add-zero i) ∙ mod-eq_of_lt h
 
 -- `(ic + 1) % n`
 after-it : (outside : Outside) (i n : ℕ) → i < n → remainder outside (i + 1) n ≡ next n i
@@ -57,7 +63,8 @@ closed-topology outside S n =
     ∙ append_assoc (bottom_triangles n) (layers n S) (top_triangles n S))
 
 -- a triangle assigned index by index, and the two of a quad
-triangle-assigned : (i a b c : ℕ) (xs : List Triangle) → i < length xs → assign2 (assign1 (assign0 xs i a) i b) i c ≡ overwrite i (triangle a b c ∷ []) xs
+triangle-assigned : (i a b c : ℕ) (xs : List Triangle) → i < length xs
+    → assign2 (assign1 (assign0 xs i a) i b) i c ≡ overwrite i (triangle a b c ∷ []) xs
 triangle-assigned i a b c xs h = assigned-by-three (first a) (second b) (third c) (triangle a b c) same i xs h
   where
     same : (x : Triangle) → third c (second b (first a x)) ≡ triangle a b c
@@ -76,7 +83,8 @@ quad-assigned p q xs {a} {b} {c} {d} {e} {f} h place u v w x y z =
 length-row : (n g : ℕ) → length (blocks n (tube_quad n g)) ≡ n * 2
 length-row n g = length-blocks 2 n (tube_quad n g) (λ i h. refl)
 
-pub open-topology : (outside : Outside) (n m : ℕ) → 1 ≤ m → cylinder-open-end-set-topology outside (vec zero_triangle (m * n * 2)) (m + 1) ≡ tube_triangles n m
+pub open-topology : (outside : Outside) (n m : ℕ) → 1 ≤ m
+    → cylinder-open-end-set-topology outside (vec zero_triangle (m * n * 2)) (m + 1) ≡ tube_triangles n m
 unfolding cylinder-open-end-set-topology
 open-topology outside n m h =
     let side : minus outside (m + 1) 1 ≡ m = minus_is outside (m + 1) 1 m refl in

@@ -40,13 +40,15 @@ module _ (outside : Outside) (c : List Float) (m : ℕ) (is : vertices_in c ≡ 
       (sum_of (vertex outside c m is h k g l same j) (scaled (ey-at outside c m is h k g l same j) (times r (turn j).cos)))
       (scaled (ex-at outside c m is h k g l same j) (times r (turn j).sin))
 
-  tube-points : rust.set-vtx2xyz-for-generalized-cylinder-open-end outside (vec zeros (n * (m + 1))) (chunks c) r ≡ rings_points (m + 1) side n
+  tube-points : rust.set-vtx2xyz-for-generalized-cylinder-open-end outside (vec zeros (n * (m + 1))) (chunks c) r
+      ≡ rings_points (m + 1) side n
   unfolding rust.set-vtx2xyz-for-generalized-cylinder-open-end
   tube-points =
       let room = n * (m + 1) in
       let t₀ = vec zeros room in
       let long : length t₀ ≡ room = length-replicate room zeros in
-      let round : quotient outside (n * (m + 1)) (m + 1) ≡ n = quotient_is outside (n * (m + 1)) (m + 1) (omega arith) ∙ mul-div_cancel n (omega arith) in
+      let round : quotient outside (n * (m + 1)) (m + 1) ≡ n =
+      quotient_is outside (n * (m + 1)) (m + 1) (omega arith) ∙ mul-div_cancel n (omega arith) in
       rw (long, sized outside c m is h, round) (rings-assigned room (m + 1) n 0 side _ t₀ (omega arith)
       (λ g i hg hi l t. assigned room (g * n + i) (0 + g * n + i) t l (omega arith) (side-is g g i hg refl))
       long

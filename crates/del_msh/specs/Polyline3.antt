@@ -7,7 +7,8 @@ use Rattle.surface.specs.Triangles.{triangle}
 use Rattle.vec3.specs.Points.{times}
 use Rattle.vec3.specs.declared.points.Point.{Point}
 use Rattle.del_msh.specs.Vectors.{vec, len, assert, assign, if, for, ◌‥◌}
-use Rattle.del_msh.specs.Arrays.{Outside, read, minus, quotient, one, zeros, zero_triangle, assign_x, assign_y, assign_z}
+use Rattle.del_msh.specs.Arrays.{Outside, read, minus, quotient, one, zeros, zero_triangle, assign_x, assign_y}
+use Rattle.del_msh.specs.Arrays.{assign_z}
 use Rattle.del_msh.specs.DelGeoCore.{TAU, FRAC-PI-2, mul, div, cos, sin}
 use Rattle.del_msh.specs.DelGeoCore.{add, sub, scale, cross, normalize, mult-vec}
 use Rattle.del_msh.specs.DelGeoCore.{basis-xy-from-basis-z, minimum-rotation-matrix}
@@ -128,7 +129,7 @@ module _ (outside : Outside) where
       let vtxl2framey = vtx2framey vtxl2xyz vtxl2framex in
       let ndiv-length = num-vtxl -? 1 in
       let tri2vtx-vtx2xyz =
-          cylinder-closed-end-yup outside one one ndiv-circum (2 * ndiv-longtitude + ndiv-length -? 2) true in
+      cylinder-closed-end-yup outside one one ndiv-circum (2 * ndiv-longtitude + ndiv-length -? 2) true in
       let tri2vtx = tri2vtx-vtx2xyz.0 in
       let vtx2xyz = tri2vtx-vtx2xyz.1 in
       let vtx2xyz = assert (eqb (len vtx2xyz) ((2 * ndiv-longtitude + ndiv-length -? 1) * ndiv-circum + 2)) vtx2xyz in
@@ -197,9 +198,9 @@ module _ (outside : Outside) where
                   let ax = scale ex (times c0 (sin theta)) in
                   let q = add (add (add p0 az) ax) ay in
                   let vtx2xyz =
-                      assign_x vtx2xyz (1 + (ir + ndiv-length + ndiv-longtitude -? 1) * ndiv-circum + ic) q.x in
+                  assign_x vtx2xyz (1 + (ir + ndiv-length + ndiv-longtitude -? 1) * ndiv-circum + ic) q.x in
                   let vtx2xyz =
-                      assign_y vtx2xyz (1 + (ir + ndiv-length + ndiv-longtitude -? 1) * ndiv-circum + ic) q.y in
+                  assign_y vtx2xyz (1 + (ir + ndiv-length + ndiv-longtitude -? 1) * ndiv-circum + ic) q.y in
                   assign_z vtx2xyz (1 + (ir + ndiv-length + ndiv-longtitude -? 1) * ndiv-circum + ic) q.z,
             ) vtx2xyz,
       ) vtx2xyz in

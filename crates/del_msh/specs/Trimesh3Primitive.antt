@@ -9,7 +9,8 @@ use Rattle.vec3.specs.Points.{plus, times, over}
 use Rattle.vec3.specs.Turns.{whole}
 use Rattle.vec3.specs.declared.points.Point.{Point}
 use Rattle.del_msh.specs.Vectors.{vec, len, push, assert, assign, if, for, ◌‥◌}
-use Rattle.del_msh.specs.Arrays.{Outside, minus, quotient, remainder, xyz, zero, one, zeros, assign0, assign1, assign2}
+use Rattle.del_msh.specs.Arrays.{Outside, minus, quotient, remainder, xyz, zero, one, zeros, assign0, assign1}
+use Rattle.del_msh.specs.Arrays.{assign2}
 use Rattle.del_msh.specs.DelGeoCore.{TAU, mul, div, cos, sin}
 
 -- `(Vec<[usize; 3]>, Vec<[f32; 3]>)`: triangles and vertices

@@ -7,7 +7,8 @@ use Rattle.std.specs.Float.{binary32}
 use Rattle.std.specs.Float.Ieee.{of_bits, lt}
 use Rattle.std.specs.Float.Ieee.Scale.{finite}
 use Rattle.float32.specs.Scan.{all_finite}
-use Rattle.kinds.specs.Limits.{between, longitudes_permitted, layers_permitted, least_loop, most_loop, least_round, most_round}
+use Rattle.kinds.specs.Limits.{between, longitudes_permitted, layers_permitted, least_loop, most_loop}
+use Rattle.kinds.specs.Limits.{least_round, most_round}
 use Rattle.kinds.specs.Kinds.{vertex_count, triangle_count}
 use Rattle.kinds.specs.declared.topology.Topology.{Topology}
 use Rattle.curve.specs.Checks.{segments_permitted, folds_permitted}
@@ -112,7 +113,8 @@ sizes_permitted (SeamlessTorus n r) = size_permitted r
 
 -- 10, 20, 21 of a number of curve vertices
 abbrev pub shape_tests : Description → ℕ → List Test
-shape_tests d N = test 10 (vertices_permitted d N) ∷ test 20 (round_permitted d) ∷ test 21 (lengthwise_permitted d N) ∷ []
+shape_tests d N =
+    test 10 (vertices_permitted d N) ∷ test 20 (round_permitted d) ∷ test 21 (lengthwise_permitted d N) ∷ []
 
 abbrev pub ShapePermitted : Description → ℕ → Type 0
 ShapePermitted d N = AllPermitted (shape_tests d N)

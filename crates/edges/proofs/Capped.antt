@@ -13,7 +13,8 @@ use Rattle.surface.specs.declared.caps.End.{End}
 use Rattle.surface.specs.declared.caps.End.TheVariants.{Bottom, Top}
 use Rattle.surface.specs.declared.quads.Split.TheVariants.{Capped}
 use Rattle.surface.proofs.Chains.{after-lt}
-use Rattle.edges.specs.Edges.{Edge, ◌⟶◌, reverse, edges, same, total, count, is_zero, NoneTwice, AllMatched, Inside, Within}
+use Rattle.edges.specs.Edges.{Edge, ◌⟶◌, reverse, edges, same, total, count, is_zero, NoneTwice, AllMatched}
+use Rattle.edges.specs.Edges.{Inside, Within}
 use Rattle.edges.proofs.Zero.{is_zero-yes}
 use Rattle.edges.proofs.Totals.{total-edges, within-append, within-blocks, within-widen}
 use Rattle.edges.proofs.Chains.{chain-turn, before, corner, corner-lt}
@@ -37,7 +38,8 @@ third Top n rim i = rim + i
 abbrev cap : End → ℕ → ℕ → ℕ → ℕ → ℕ → ℕ → Edge
 cap end n pole rim = fan pole (second end n rim) (third end n rim)
 
-cap-total : (end : End) (n pole rim : ℕ) (f : Edge → ℕ) → total f (edges (cap_triangles end n pole rim)) ≡ places 1 n 3 (cap end n pole rim) f
+cap-total : (end : End) (n pole rim : ℕ) (f : Edge → ℕ)
+    → total f (edges (cap_triangles end n pole rim)) ≡ places 1 n 3 (cap end n pole rim) f
 cap-total Bottom n pole rim f = fan-total pole (second Bottom n rim) (third Bottom n rim) n f
 cap-total Top n pole rim f = fan-total pole (second Top n rim) (third Top n rim) n f
 
@@ -70,7 +72,8 @@ module _ (n pole rim : ℕ) (hn : 3 ≤ n) (off : (i : ℕ) → i < n → pole �
   }
 
 -- three counts of at most 1, no two of them 1 at once
-three-once : (x y z : ℕ) → x ≤ 1 → y ≤ 1 → z ≤ 1 → (1 ≤ x → 1 ≤ y → ⊥) → (1 ≤ x → 1 ≤ z → ⊥) → (1 ≤ z → 1 ≤ y → ⊥) → x + (y + z) ≤ 1
+three-once : (x y z : ℕ) → x ≤ 1 → y ≤ 1 → z ≤ 1 → (1 ≤ x → 1 ≤ y → ⊥) → (1 ≤ x → 1 ≤ z → ⊥)
+    → (1 ≤ z → 1 ≤ y → ⊥) → x + (y + z) ≤ 1
 three-once x y z hx hy hz xy xz zy = go (eq-zero-or-pos x) (eq-zero-or-pos y) (eq-zero-or-pos z)
   where
     go : (x ≡ 0) ⊎ (0 < x) → (y ≡ 0) ⊎ (0 < y) → (z ≡ 0) ⊎ (0 < z) → x + (y + z) ≤ 1
@@ -113,7 +116,8 @@ module _ (n S first : ℕ) where
   abbrev cap_at : End → ℕ → ℕ → ℕ → Edge
   cap_at end = cap end n (pole end) (rim end)
 
-  capped-total : (f : Edge → ℕ) → total f (edges capped) ≡ places 1 n 3 (cap_at Bottom) f + (places S n 6 at f + places 1 n 3 (cap_at Top) f)
+  capped-total : (f : Edge → ℕ)
+      → total f (edges capped) ≡ places 1 n 3 (cap_at Bottom) f + (places S n 6 at f + places 1 n 3 (cap_at Top) f)
   capped-total f =
       total-edges f (cap_list Bottom) (grid ++ cap_list Top)
       ∙ omega (
@@ -173,7 +177,8 @@ module _ (n S first : ℕ) where
         let t = (pattern_of Capped).tail s in
         in-grid Capped Open S Closed n (first + 1) (corner Open S t.0 g) (corner Closed n t.1 i) (corner-lt Open S t.0 g hg) (corner-lt Closed n t.1 i hi)
 
-    grid-reaches : (g i s : ℕ) → g < S → i < n → s < 6 → Inside (first + 1) (first + 1 + (S + 1) * n) (reaches (at g i s))
+    grid-reaches : (g i s : ℕ) → g < S → i < n → s < 6
+        → Inside (first + 1) (first + 1 + (S + 1) * n) (reaches (at g i s))
     grid-reaches g i s hg hi hs =
         let h = (pattern_of Capped).head s in
         in-grid Capped Open S Closed n (first + 1) (corner Open S h.0 g) (corner Closed n h.1 i) (corner-lt Open S h.0 g hg) (corner-lt Closed n h.1 i hi)
@@ -255,10 +260,12 @@ module _ (n S first : ℕ) where
 
         high : (is_zero (S - (g + 1)) ≡ 0) ⊎ (0 < is_zero (S - (g + 1))) → 1 ≤ count (reverse (at g i 3)) (edges capped)
         high (inl z) = inner-mate g i 3 hg hi (omega arith) (omega arith)
-        high (inr p) = let z = is_zero-yes (S - (g + 1)) p in let e : g ≡ S - 1 = omega arith in rw e (closed-by Top i hi)
+        high (inr p) =
+            let z = is_zero-yes (S - (g + 1)) p in let e : g ≡ S - 1 = omega arith in rw e (closed-by Top i hi)
 
     pub capped-matched : AllMatched (edges capped)
-    capped-matched e h = go (eq-zero-or-pos (places 1 n 3 (cap_at Bottom) (same e))) (eq-zero-or-pos (places S n 6 at (same e)))
+    capped-matched e h =
+        go (eq-zero-or-pos (places 1 n 3 (cap_at Bottom) (same e))) (eq-zero-or-pos (places S n 6 at (same e)))
       where
         go : (places 1 n 3 (cap_at Bottom) (same e) ≡ 0) ⊎ (0 < places 1 n 3 (cap_at Bottom) (same e))
             → (places S n 6 at (same e) ≡ 0) ⊎ (0 < places S n 6 at (same e)) → 1 ≤ count (reverse e) (edges capped)
@@ -268,9 +275,12 @@ module _ (n S first : ℕ) where
 
   -- ---- no index outside
 
-  cap-within : (end : End) (v w pole rim : ℕ) → Inside v w pole → v ≤ rim → rim + n ≤ w → Within v w (cap_triangles end n pole rim)
-  cap-within Bottom v w pole rim hp l u = within-blocks v w n _ (λ i h. (hp, omega arith, omega (arith, after-lt Closed n i h), tt))
-  cap-within Top v w pole rim hp l u = within-blocks v w n _ (λ i h. (hp, omega (arith, after-lt Closed n i h), omega arith, tt))
+  cap-within : (end : End) (v w pole rim : ℕ) → Inside v w pole → v ≤ rim → rim + n ≤ w
+      → Within v w (cap_triangles end n pole rim)
+  cap-within Bottom v w pole rim hp l u =
+      within-blocks v w n _ (λ i h. (hp, omega arith, omega (arith, after-lt Closed n i h), tt))
+  cap-within Top v w pole rim hp l u =
+      within-blocks v w n _ (λ i h. (hp, omega (arith, after-lt Closed n i h), omega arith, tt))
 
   pub capped-within : Within first (first + ((S + 1) * n + 2)) capped
   capped-within =

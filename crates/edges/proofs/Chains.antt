@@ -38,7 +38,8 @@ pub record Turn (next : ℕ → ℕ) (n : ℕ) : Type 0 where
   pub one_way : (i j : ℕ) → i < n → j < n → next i ≡ next j → i ≡ j
 
 pub chain-turn : (chain : Chain) (n : ℕ) → least_steps chain ≤ n → Turn (after_of chain n) n
-chain-turn Open n h = record { moves = λ i. omega arith; twice = λ i. omega arith; one_way = λ i j hi hj p. omega arith }
+chain-turn Open n h =
+    record { moves = λ i. omega arith; twice = λ i. omega arith; one_way = λ i j hi hj p. omega arith }
 chain-turn Closed n h = record {
   moves = λ i. moves i (dec_lt i n);
   twice = λ i. twice i (dec_lt i n);
@@ -81,7 +82,8 @@ corner-lt Open n false i h = omega arith
 corner-lt Closed n false i h = h
 corner-lt chain n true i h = after-lt chain n i h
 
-pub corner-inj : (chain : Chain) (n : ℕ) → least_steps chain ≤ n → (x : Bool) (i j : ℕ) → i < n → j < n → corner chain n x i ≡ corner chain n x j → i ≡ j
+pub corner-inj : (chain : Chain) (n : ℕ) → least_steps chain ≤ n → (x : Bool) (i j : ℕ) → i < n → j < n
+    → corner chain n x i ≡ corner chain n x j → i ≡ j
 corner-inj chain n h false i j hi hj p = p
 corner-inj chain n h true i j hi hj p = (chain-turn chain n h).one_way i j hi hj p
 
@@ -96,13 +98,15 @@ Across chain n true false i j = j ≡ i
 Across chain n true true i j = j ≡ after_of chain n i
 
 -- seen from there, the sides are exchanged
-pub across-tail : (chain : Chain) (n : ℕ) (x y : Bool) (i j : ℕ) → Across chain n x y i j → corner chain n (not x) j ≡ corner chain n y i
+pub across-tail : (chain : Chain) (n : ℕ) (x y : Bool) (i j : ℕ) → Across chain n x y i j
+    → corner chain n (not x) j ≡ corner chain n y i
 across-tail chain n false false i j h = h
 across-tail chain n false true i j h = ap (λ (k : ℕ). after_of chain n k) h
 across-tail chain n true false i j h = h
 across-tail chain n true true i j h = h
 
-pub across-head : (chain : Chain) (n : ℕ) (x y : Bool) (i j : ℕ) → Across chain n x y i j → corner chain n (not y) j ≡ corner chain n x i
+pub across-head : (chain : Chain) (n : ℕ) (x y : Bool) (i j : ℕ) → Across chain n x y i j
+    → corner chain n (not y) j ≡ corner chain n x i
 across-head chain n false false i j h = h
 across-head chain n false true i j h = h
 across-head chain n true false i j h = ap (λ (k : ℕ). after_of chain n k) h
@@ -139,7 +143,8 @@ pub before : (n i : ℕ) → i < n → (j : ℕ) × (j < n) × ((j + 1) % n ≡ 
 before n zero h = (n - 1, omega arith, (let e : n - 1 + 1 ≡ n = omega arith in rw e (mod_self n)))
 before n (suc i) h = (i, omega arith, mod-eq_of_lt (omega arith) ∙ omega arith)
 
-pub neighbour : (chain : Chain) (n : ℕ) (x y : Bool) (i : ℕ) → i < n → outside chain n x y i ≡ 0 → Neighbour chain n x y i
+pub neighbour : (chain : Chain) (n : ℕ) (x y : Bool) (i : ℕ) → i < n → outside chain n x y i ≡ 0
+    → Neighbour chain n x y i
 neighbour Open n false false i h o = let p = is_zero-no i o in (i - 1, omega arith, omega arith)
 neighbour Closed n false false i h o = before n i h
 neighbour chain n false true i h o = (i, h, refl)
@@ -147,7 +152,8 @@ neighbour chain n true false i h o = (i, h, refl)
 neighbour Open n true true i h o = let p = is_zero-no (n - (i + 1)) o in (i + 1, omega arith, refl)
 neighbour Closed n true true i h o = ((i + 1) % n, next-lt n i (omega arith), refl)
 
-pub no-neighbour : (chain : Chain) (n : ℕ) (x y : Bool) (i j : ℕ) → j < n → 1 ≤ outside chain n x y i → corner chain n (not x) j ≡ corner chain n y i → ⊥
+pub no-neighbour : (chain : Chain) (n : ℕ) (x y : Bool) (i j : ℕ) → j < n → 1 ≤ outside chain n x y i
+    → corner chain n (not x) j ≡ corner chain n y i → ⊥
 no-neighbour Open n false false i j h o p = let z = is_zero-yes i o in omega arith
 no-neighbour Closed n false false i j h o p = omega arith
 no-neighbour chain n false true i j h o p = omega arith
@@ -157,7 +163,8 @@ no-neighbour Closed n true true i j h o p = omega arith
 
 -- ---- how many ends there are
 
-pub sum-ends : (chain : Chain) (n : ℕ) → least_steps chain ≤ n → sum n (λ i. at_start chain i) + sum n (λ i. at_end chain n i) ≡ ends chain
+pub sum-ends : (chain : Chain) (n : ℕ) → least_steps chain ≤ n
+    → sum n (λ i. at_start chain i) + sum n (λ i. at_end chain n i) ≡ ends chain
 sum-ends Open n h =
     omega (
       arith,

@@ -74,8 +74,10 @@ forward = record {
   place_of = place_of;
   known = below6 (λ s. place_of (step (get_or tails s a).0 (get_or heads s a).0) (step (get_or tails s a).1 (get_or heads s a).1) ≡ s) refl refl refl refl refl refl;
   mate-lt = below6 (λ s. get_or mates s 0 < 6) (omega arith) (omega arith) (omega arith) (omega arith) (omega arith) (omega arith);
-  mate-tail = below6 (λ s. get_or tails (get_or mates s 0) a ≡ opposite (get_or tails s a)) refl refl refl refl refl refl;
-  mate-head = below6 (λ s. get_or heads (get_or mates s 0) a ≡ opposite (get_or heads s a)) refl refl refl refl refl refl;
+  mate-tail =
+      below6 (λ s. get_or tails (get_or mates s 0) a ≡ opposite (get_or tails s a)) refl refl refl refl refl refl;
+  mate-head =
+      below6 (λ s. get_or heads (get_or mates s 0) a ≡ opposite (get_or heads s a)) refl refl refl refl refl refl;
   crosses = below6 (λ s. ((get_or heads s a).0 ≡ not (get_or tails s a).0) ⊎ ((get_or heads s a).1 ≡ not (get_or tails s a).1))
       (inr refl) (inl refl) (inl refl) (inr refl) (inl refl) (inl refl);
   sides = λ f g p q u v. omega arith;

@@ -22,7 +22,8 @@ below3 Q q0 q1 q2 (suc (suc (suc s))) h = absurd (omega arith)
 abbrev pub fan : ℕ → (ℕ → ℕ) → (ℕ → ℕ) → ℕ → ℕ → ℕ → Edge
 fan p x y g i s = get_or ((p ⟶ x i) ∷ (x i ⟶ y i) ∷ (y i ⟶ p) ∷ []) s (p ⟶ p)
 
-pub fan-total : (p : ℕ) (x y : ℕ → ℕ) (n : ℕ) (f : Edge → ℕ) → total f (edges (blocks n (λ i. triangle p (x i) (y i) ∷ []))) ≡ places 1 n 3 (fan p x y) f
+pub fan-total : (p : ℕ) (x y : ℕ → ℕ) (n : ℕ) (f : Edge → ℕ)
+    → total f (edges (blocks n (λ i. triangle p (x i) (y i) ∷ []))) ≡ places 1 n 3 (fan p x y) f
 fan-total p x y n f =
     total-blocks f n (λ i. triangle p (x i) (y i) ∷ [])
     ∙ sum-cong n _ (λ i. sum 3 (λ s. f (fan p x y 0 i s))) (λ i h. omega arith)

@@ -11,7 +11,8 @@ use Rattle.surface.specs.Grid.{after_of, points_of}
 use Rattle.surface.specs.declared.grid.Chain.{Chain}
 use Rattle.edges.specs.Edges.{Edge, ◌⟶◌, reverse, least_steps, ends}
 use Rattle.edges.proofs.Sum.{sum, sum-cong, sum-add, sum-const, sum-mul}
-use Rattle.edges.proofs.Chains.{Turn, chain-turn, corner, corner-lt, corner-inj, across-tail, across-head, outside, outside-le, neighbour, no-neighbour, at_start, at_end, sum-ends}
+use Rattle.edges.proofs.Chains.{Turn, chain-turn, corner, corner-lt, corner-inj, across-tail, across-head}
+use Rattle.edges.proofs.Chains.{outside, outside-le, neighbour, no-neighbour, at_start, at_end, sum-ends}
 use Rattle.edges.proofs.Corners.{Corner, opposite, Step, none, onward, back, step, Pattern}
 use Rattle.edges.proofs.Places.{Placed, Apart}
 
@@ -33,7 +34,8 @@ goes-once t back none x y g h = absurd (t.moves x (cc))
 goes-once t back onward x y g h = absurd (t.twice x (cc))
 goes-once t back back x y g h = refl
 
-goes : (chain : Chain) (n : ℕ) (x y : Bool) (i : ℕ) → Goes (after_of chain n) (step x y) (corner chain n x i) (corner chain n y i)
+goes : (chain : Chain) (n : ℕ) (x y : Bool) (i : ℕ)
+    → Goes (after_of chain n) (step x y) (corner chain n x i) (corner chain n y i)
 goes chain n false false i = refl
 goes chain n false true i = refl
 goes chain n true false i = refl
@@ -91,7 +93,8 @@ module _ (along : Chain) (m : ℕ) (round : Chain) (n : ℕ) (base : ℕ) (hm : 
       at : Corner → ℕ → ℕ → ℕ
       at c k j = vertex round n base (corner along m c.0 k) (corner round n c.1 j)
 
-      one-corner : (c c' : Corner) → at c g i ≡ at c' g' i' → (corner along m c.0 g ≡ corner along m c'.0 g') × (corner round n c.1 i ≡ corner round n c'.1 i')
+      one-corner : (c c' : Corner) → at c g i ≡ at c' g' i'
+          → (corner along m c.0 g ≡ corner along m c'.0 g') × (corner round n c.1 i ≡ corner round n c'.1 i')
       one-corner c c' e =
           vertex-inj (points_of round n) base (corner along m c.0 g) (corner round n c.1 i) (corner along m c'.0 g') (corner round n c'.1 i')
           (corner-lt round n c.1 i hi) (corner-lt round n c'.1 i' hi') e
@@ -149,7 +152,8 @@ module _ (along : Chain) (m : ℕ) (round : Chain) (n : ℕ) (base : ℕ) (hm : 
         by-steps s' (P.mate s) (opposite t) (opposite h) hs' known
         (l.step-along ∙ step-opposite t.0 h.0) (l.step-round ∙ step-opposite t.1 h.1) in
         let from-ring : corner along m (not t.0) g' ≡ corner along m h.0 g = rw (e, P.mate-tail s hs) at l.from-ring in
-        let from_place : corner round n (not t.1) i' ≡ corner round n h.1 i = rw (e, P.mate-tail s hs) at l.from_place in
+        let from_place : corner round n (not t.1) i' ≡ corner round n h.1 i =
+        rw (e, P.mate-tail s hs) at l.from_place in
         either (eq-zero-or-pos (outside along m t.0 h.0 g)) from-ring from_place
       where
         either : (outside along m (P.tail s).0 (P.head s).0 g ≡ 0) ⊎ (0 < outside along m (P.tail s).0 (P.head s).0 g)

@@ -14,7 +14,8 @@ use Rattle.surface.specs.declared.grid.Chain.{Chain}
 use Rattle.surface.specs.declared.quads.Split.{Split}
 use Rattle.surface.specs.declared.quads.Split.TheVariants.{Capped, Torus, Tube, Ribbon}
 use Rattle.surface.proofs.Chains.{after-lt}
-use Rattle.edges.specs.Edges.{Edge, reverse, edges, same, total, count, is_zero, lacks, unmatched, NoneTwice, Inside, Within, least_steps, ends}
+use Rattle.edges.specs.Edges.{Edge, reverse, edges, same, total, count, is_zero, lacks, unmatched, NoneTwice}
+use Rattle.edges.specs.Edges.{Inside, Within, least_steps, ends}
 use Rattle.edges.proofs.Zero.{is_zero-pos}
 use Rattle.edges.proofs.Sum.{sum, sum-cong}
 use Rattle.edges.proofs.Totals.{total-blocks, within-blocks}
@@ -38,7 +39,8 @@ quad-edges Tube along m round n base g i f = omega arith
 quad-edges Ribbon along m round n base g i f = omega arith
 
 -- every vertex of a quad is one of the grid
-quad-within : (split : Split) (v w a b d e : ℕ) → Inside v w a → Inside v w b → Inside v w d → Inside v w e → Within v w (quad_of split a b d e)
+quad-within : (split : Split) (v w a b d e : ℕ) → Inside v w a → Inside v w b → Inside v w d → Inside v w e
+    → Within v w (quad_of split a b d e)
 quad-within Capped v w a b d e ha hb hd he = (he, hb, ha, (hd, he, ha, tt))
 quad-within Torus v w a b d e ha hb hd he = (ha, hb, hd, (he, hd, hb, tt))
 quad-within Tube v w a b d e ha hb hd he = (ha, he, hb, (ha, hd, he, tt))
@@ -58,7 +60,8 @@ module _ (split : Split) (along : Chain) (m : ℕ) (round : Chain) (n : ℕ) (ba
       total-blocks f n (quad_at split along m round n base g)
       ∙ sum-cong n _ _ (λ i hi. quad-edges split along m round n base g i f))
 
-  pub in-grid : (r c : ℕ) → r < points_of along m → c < points_of round n → Inside base (base + points_of along m * points_of round n) (vertex round n base r c)
+  pub in-grid : (r c : ℕ) → r < points_of along m → c < points_of round n
+      → Inside base (base + points_of along m * points_of round n) (vertex round n base r c)
   in-grid r c hr hc = omega (arith, digits_lt hr hc)
 
   pub grid-within : Within base (base + points_of along m * points_of round n) list

@@ -36,7 +36,8 @@ count_at [] p d e h q = absurd (omega arith)
 count_at (x ∷ xs) zero d e h q = omega (arith, same_of e x q)
 count_at (x ∷ xs) (suc p) d e h q = omega (arith, count_at xs p d e (le_of_suc-le-suc h) q)
 
-pub one_place : (es : List Edge) → NoneTwice es → (p q : ℕ) (d : Edge) → p < length es → q < length es → get_or es p d ≡ get_or es q d → p ≡ q
+pub one_place : (es : List Edge) → NoneTwice es → (p q : ℕ) (d : Edge) → p < length es → q < length es
+    → get_or es p d ≡ get_or es q d → p ≡ q
 one_place [] u p q d hp hq e = absurd (omega arith)
 one_place (x ∷ xs) u zero zero d hp hq e = refl
 one_place (x ∷ xs) u zero (suc q) d hp hq e =

@@ -67,7 +67,8 @@ sum-mul (suc n) c f = omega (arith, sum-mul n c f)
 -- one term only
 pub sum-at : (n : ℕ) (f : ℕ → ℕ) (c : ℕ) → c < n → ((k : ℕ) → k < n → k ≢ c → f k ≡ 0) → sum n f ≡ f c
 sum-at zero f c l z = absurd (omega arith)
-sum-at (suc n) f c l z = pick (eq-or-lt_of_le (le_of_suc-le-suc l)) (λ l'. sum-at n f c l' (λ k h ne. z k (omega arith) ne))
+sum-at (suc n) f c l z =
+    pick (eq-or-lt_of_le (le_of_suc-le-suc l)) (λ l'. sum-at n f c l' (λ k h ne. z k (omega arith) ne))
   where
     pick : (c ≡ n) ⊎ (c < n) → (c < n → sum n f ≡ f c) → sum n f + f n ≡ f c
     pick (inl e) r = rw e (omega (arith, sum-zero n f (λ k h. z k (omega arith) (omega arith))))

@@ -53,10 +53,12 @@ edges-append : (xs ys : List Triangle) → edges (xs ++ ys) ≡ edges xs ++ edge
 edges-append [] ys = refl
 edges-append (triangle a b c ∷ xs) ys = rw (edges-append xs ys) refl
 
-pub total-edges : (f : Edge → ℕ) (xs ys : List Triangle) → total f (edges (xs ++ ys)) ≡ total f (edges xs) + total f (edges ys)
+pub total-edges : (f : Edge → ℕ) (xs ys : List Triangle)
+    → total f (edges (xs ++ ys)) ≡ total f (edges xs) + total f (edges ys)
 total-edges f xs ys = rw (edges-append xs ys) (total-append f (edges xs) (edges ys))
 
-pub total-blocks : (f : Edge → ℕ) (n : ℕ) (F : ℕ → List Triangle) → total f (edges (blocks n F)) ≡ sum n (λ k. total f (edges (F k)))
+pub total-blocks : (f : Edge → ℕ) (n : ℕ) (F : ℕ → List Triangle)
+    → total f (edges (blocks n F)) ≡ sum n (λ k. total f (edges (F k)))
 total-blocks f zero F = refl
 total-blocks f (suc n) F = omega (arith, total-edges f (blocks n F) (F n), total-blocks f n F)
 
@@ -73,4 +75,5 @@ within-blocks v w (suc n) F h =
 
 pub within-widen : (v w v' w' : ℕ) (ts : List Triangle) → v' ≤ v → w ≤ w' → Within v w ts → Within v' w' ts
 within-widen v w v' w' [] l u h = tt
-within-widen v w v' w' (triangle a b c ∷ ts) l u h = (omega arith, omega arith, omega arith, within-widen v w v' w' ts l u h.3)
+within-widen v w v' w' (triangle a b c ∷ ts) l u h =
+    (omega arith, omega arith, omega arith, within-widen v w v' w' ts l u h.3)

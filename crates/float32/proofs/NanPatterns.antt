@@ -10,7 +10,8 @@ use lib.Ieee.Compare.{nan_differs}
 
 -- up to the infinity's, without the sign
 pub number-bits : (f : Format) (b : ℕ) → b % top f ≤ ones f * hid f → T (not (nan_bits f b))
-number-bits f b u = subst (λ (t : Bool). T (not t)) (sym (nan_bits_above f b ∙ le-ltb (ones f * hid f) (b % top f) u)) tt
+number-bits f b u =
+    subst (λ (t : Bool). T (not t)) (sym (nan_bits_above f b ∙ le-ltb (ones f * hid f) (b % top f) u)) tt
 
 -- above it
 is-nan : (x : Float) → is_nan x ≡ true → x ≡ nan
@@ -20,7 +21,8 @@ is-nan (inf s) h = absurd (subst T (sym h) tt)
 is-nan (fin s m e) h = absurd (subst T (sym h) tt)
 
 pub nan-bits : (f : Format) (b : ℕ) → ones f * hid f < b % top f → of_bits f b ≡ nan
-nan-bits f b u = is-nan (of_bits f b) (sym (nan_bits_is f b) ∙ nan_bits_above f b ∙ lt-ltb (ones f * hid f) (b % top f) u)
+nan-bits f b u =
+    is-nan (of_bits f b) (sym (nan_bits_is f b) ∙ nan_bits_above f b ∙ lt-ltb (ones f * hid f) (b % top f) u)
 
 -- a value that does not differ from itself
 pub no_nan : (x : Float) → ne x x ≡ false → T (not (is_nan x))

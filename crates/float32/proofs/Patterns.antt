@@ -10,7 +10,8 @@ use lib.Ieee.{Float, nan, inf, binary32, odd, of_fields, of_bits}
 use lib.Ieee.Bits.{is_false, cond_no}
 use lib.Ieee.Exact.{HasValue, odd_sign}
 
-pub of_bits_is : (b : ℕ) → of_bits binary32 b ≡ of_fields binary32 (leb 2147483648 b) (b % 2147483648 / 8388608) (b % 8388608)
+pub of_bits_is : (b : ℕ)
+    → of_bits binary32 b ≡ of_fields binary32 (leb 2147483648 b) (b % 2147483648 / 8388608) (b % 8388608)
 unfolding of_bits
 of_bits_is b = refl
 
@@ -33,7 +34,8 @@ unfolding of_fields
 at_zero t = refl
 
 -- normal values
-pub normal-value : (b : ℕ) → 8388608 ≤ b → b < 2139095040 → HasValue (of_bits binary32 b) false ((8388608 + b % 8388608) * 2 ^ (b / 8388608 - 1)) (2 ^ 149)
+pub normal-value : (b : ℕ) → 8388608 ≤ b → b < 2139095040
+    → HasValue (of_bits binary32 b) false ((8388608 + b % 8388608) * 2 ^ (b / 8388608 - 1)) (2 ^ 149)
 normal-value b h k =
     subst (λ (x : Float). HasValue x false ((8388608 + b % 8388608) * 2 ^ (b / 8388608 - 1)) (2 ^ 149))
     (sym (sign_clear b (omega arith) ∙ ap (λ (x : ℕ). of_fields binary32 false x (b % 8388608)) field ∙ under_ones (b % 8388608) (b / 8388608 - 1) (omega arith)))

@@ -3,7 +3,8 @@
 use mathlib.Core.Path.{◌≡◌, refl, sym, ap, ◌∙◌, subst}
 use mathlib.Core.Logic.{inl, inr}
 use Prim.Native.Nat.{ℕ, zero, suc, ◌+◌, ◌-◌, ◌*◌, ◌/◌, ◌^◌, ◌≤◌, ◌<◌, compare}
-use native.Mathlib.Nat.{lt_irrefl, lt_of_not-le, le_of_suc-le-suc, zero-mul, eq-or-lt_of_le, mul-le-mul_right, mul-pos, mul_assoc, div-mul-le_self, lt-div-mul-add}
+use native.Mathlib.Nat.{lt_irrefl, lt_of_not-le, le_of_suc-le-suc, zero-mul, eq-or-lt_of_le, mul-le-mul_right}
+use native.Mathlib.Nat.{mul-pos, mul_assoc, div-mul-le_self, lt-div-mul-add}
 use native.Mathlib.Omega.{arith}
 use mathlib.Core.Bool.{true, false}
 use lib.Dec.{T}
@@ -30,13 +31,15 @@ root-at (fin false zero e) n P v = absurd (none (n * down e) (mul-pos P (down_po
   where
     none : (z : ℕ) → 0 < z → z ≡ zero * up e * 2 ^ 149 → ⊥
     none z h k = lt_irrefl 0 (subst (λ (y : ℕ). 0 < y) (k ∙ ap (λ (y : ℕ). y * 2 ^ 149) (zero-mul (up e)) ∙ zero-mul (2 ^ 149)) h)
-root-at (fin false (suc m) e) n P v = ap root_of_units (whole-units (suc m * up e * 2 ^ 149) n (down e) (down_pos e) v.1)
+root-at (fin false (suc m) e) n P v =
+    ap root_of_units (whole-units (suc m * up e * 2 ^ 149) n (down e) (down_pos e) v.1)
 
 -- ---- the root's 24 leading digits and their place
 abbrev rounded : ℕ → ℕ → ℕ → Float
 rounded w r k = units binary32 false (nearest (r / 2 ^ k) (compare (4 * w) ((2 * (r / 2 ^ k) + 1) * 2 ^ k * ((2 * (r / 2 ^ k) + 1) * 2 ^ k)))) k
 
-root_is : (n : ℕ) → root_of_units n ≡ rounded (n * 2 ^ 149) (whole_root (n * 2 ^ 149)) (size (whole_root (n * 2 ^ 149)) - 24)
+root_is : (n : ℕ)
+    → root_of_units n ≡ rounded (n * 2 ^ 149) (whole_root (n * 2 ^ 149)) (size (whole_root (n * 2 ^ 149)) - 24)
 unfolding root_of_units
 root_is n = refl
 
@@ -57,7 +60,9 @@ module _ (w N k r : ℕ) (e : w ≡ N * (2 ^ k * 2 ^ k)) (i : IsRoot w r) (l : 7
       places-below r k (omega arith) (omega arith)
 
   rounded-is : (g : ℕ) → Near N g → rounded w r (size r - 24) ≡ units binary32 false g k
-  rounded-is g n = ap (rounded w r) dropped ∙ ap (λ (x : ℕ). units binary32 false x k) (near-is w N (2 ^ k) (r / 2 ^ k) g (pow_pos k) e leading n)
+  rounded-is g n =
+      ap (rounded w r) dropped
+      ∙ ap (λ (x : ℕ). units binary32 false x k) (near-is w N (2 ^ k) (r / 2 ^ k) g (pow_pos k) e leading n)
 
 -- ---- the nearest root has 24 digits, or is 2 ^ 24
 near-low : (N g : ℕ) → 70368744177664 ≤ N → Near N g → 8388608 ≤ g
@@ -70,7 +75,8 @@ near-high N g u n = le_of_suc-le-suc (lt_of_not-le (λ (h : 16777217 ≤ g). far
     far a h = let l = n.low in omega arith
 
 -- ---- the law: x is n units, and n * 2 ^ 149 is N * 4 ^ k
-root-law : (x : Float) (n N k g : ℕ) → 0 < n → HasValue x false n (2 ^ 149) → n * 2 ^ 149 ≡ N * (2 ^ k * 2 ^ k) → 70368744177664 ≤ N → N < 281474976710656 → k ≤ 190
+root-law : (x : Float) (n N k g : ℕ) → 0 < n → HasValue x false n (2 ^ 149) → n * 2 ^ 149 ≡ N * (2 ^ k * 2 ^ k)
+    → 70368744177664 ≤ N → N < 281474976710656 → k ≤ 190
     → Near N g → root_of x ≡ of_bits binary32 (k * 8388608 + g)
 root-law x n N k g P v e l u h near =
     root-at x n P v
@@ -78,7 +84,8 @@ root-law x n N k g P v e l u h near =
     ∙ rounded-is (n * 2 ^ 149) N k (whole_root (n * 2 ^ 149)) e (whole_root-is (n * 2 ^ 149)) l u g near
     ∙ units-bits k g (near-low N g l near) (near-high N g u near) h
 
-root-bits-at : (m p a k g : ℕ) → p ≡ a + (k + k) → 70368744177664 ≤ m * 2 ^ a → m * 2 ^ a < 281474976710656 → k ≤ 190 → Near (m * 2 ^ a) g → RootBits m p (k * 8388608 + g)
+root-bits-at : (m p a k g : ℕ) → p ≡ a + (k + k) → 70368744177664 ≤ m * 2 ^ a → m * 2 ^ a < 281474976710656
+    → k ≤ 190 → Near (m * 2 ^ a) g → RootBits m p (k * 8388608 + g)
 root-bits-at m p a k g e l u h near =
     record {
       root-of = λ x n P v w. sym (root-law x n (m * 2 ^ a) k g P v (w ∙ split) l u h near);
@@ -92,7 +99,8 @@ root-bits-at m p a k g e l u h near =
         ∙ sym (mul_assoc m (2 ^ a) (2 ^ k * 2 ^ k))
 
 -- with 2 ^ 24 or 2 ^ 23 as the factor
-pub root-bits : (m o k g : ℕ) → 8388608 ≤ m → m < 16777216 → o ≤ 1 → k ≤ 190 → Near (m * (16777216 - o * 8388608)) g → RootBits m (24 - o + (k + k)) (k * 8388608 + g)
+pub root-bits : (m o k g : ℕ) → 8388608 ≤ m → m < 16777216 → o ≤ 1 → k ≤ 190
+    → Near (m * (16777216 - o * 8388608)) g → RootBits m (24 - o + (k + k)) (k * 8388608 + g)
 root-bits m o k g l u b h near =
     elim (eq-or-lt_of_le b) [
       | inl e ↦ root-bits-at m (24 - o + (k + k)) 23 k g (omega arith) (omega arith) (omega arith) h (subst (λ (z : ℕ). Near (m * z) g) (omega arith) near)

@@ -51,7 +51,8 @@ negative b l u =
     ap root_of (of_bits_is b ∙ ap (λ (s : Bool). of_fields binary32 s (b % 2147483648 / 8388608) (b % 8388608)) (is_true (leb 2147483648 b) (le→leb 2147483648 b (omega arith))))
     ∙ fields_neg (b % 2147483648 / 8388608) (b % 8388608) (omega arith)
 
-pub no-root : (b : ℕ) → 2139095040 ≤ b → (b ≡ 2147483648 → ⊥) → (b ≡ 2139095040 → ⊥) → b < 4294967296 → root_of (of_bits binary32 b) ≡ nan
+pub no-root : (b : ℕ) → 2139095040 ≤ b → (b ≡ 2147483648 → ⊥) → (b ≡ 2139095040 → ⊥) → b < 4294967296
+    → root_of (of_bits binary32 b) ≡ nan
 no-root b l z i u =
     elim (eq-zero-or-pos (b / 2147483648)) [
       | inl h ↦ ap root_of (nan-bits binary32 b (omega arith)) ∙ at-nan

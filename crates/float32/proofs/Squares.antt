@@ -3,7 +3,9 @@
 use mathlib.Core.Path.{◌≡◌, refl, sym, ap, ◌∙◌, subst}
 use mathlib.Core.Logic.{inl, inr}
 use Prim.Native.Nat.{ℕ, suc, ◌+◌, ◌*◌, ◌/◌, ◌≤◌, ◌<◌, compare, Ordering}
-use native.Mathlib.Nat.{le_antisymm, lt_of_not-le, le_of_suc-le-suc, mul-le-mul, mul-le-mul_left, mul-le-mul_right, mul-pos, le_of_mul-le-mul_right, lt_of_mul-lt-mul_right, div-mul-le_self, lt-div-mul-add, eq-or-lt_of_le}
+use native.Mathlib.Nat.{le_antisymm, lt_of_not-le, le_of_suc-le-suc, mul-le-mul, mul-le-mul_left}
+use native.Mathlib.Nat.{mul-le-mul_right, mul-pos, le_of_mul-le-mul_right, lt_of_mul-lt-mul_right}
+use native.Mathlib.Nat.{div-mul-le_self, lt-div-mul-add, eq-or-lt_of_le}
 use native.Mathlib.Omega.{arith}
 use mathlib.Core.Bool.{not}
 use lib.Dec.{T, is_le, compare_is_eq, eqb, leb→le, nleb→lt, eqb→eq, eqb_refl}
@@ -43,7 +45,8 @@ Compared Ordering.gt a b = b < a
 compared : (a b : ℕ) → Compared (compare a b) a b
 compared a b = go (compare a b) (leb→le a b) (nleb→lt a b) (eqb→eq a b) (λ (e : a ≡ b). subst (λ (x : ℕ). T (eqb a x)) e (eqb_refl a))
   where
-    go : (o : Ordering) → (T (is_le o) → a ≤ b) → (T (not (is_le o)) → b < a) → (T (compare_is_eq o) → a ≡ b) → (a ≡ b → T (compare_is_eq o)) → Compared o a b
+    go : (o : Ordering) → (T (is_le o) → a ≤ b) → (T (not (is_le o)) → b < a) → (T (compare_is_eq o) → a ≡ b)
+        → (a ≡ b → T (compare_is_eq o)) → Compared o a b
     go Ordering.lt h k e n = lt_of_le-ne (h tt) n
     go Ordering.eq h k e n = e tt
     go Ordering.gt h k e n = k tt

@@ -2,7 +2,9 @@
 use mathlib.Core.Path.{◌≡◌, refl, sym, ap, ◌∙◌, subst}
 use mathlib.Core.Logic.{inl, inr}
 use Prim.Native.Nat.{ℕ, suc, ◌+◌, ◌-◌, ◌*◌, ◌/◌, ◌^◌, ◌≤◌, ◌<◌}
-use native.Mathlib.Nat.{le_antisymm, le_trans, le_of_eq, lt_of_le_of_lt, lt_of_lt_of_le, lt_of_not-le, not-le_of_lt, pow-succ', eq-or-lt_of_le, mul-le-mul, mul-le-mul_right, mul_assoc, mul-div_cancel}
+use native.Mathlib.Nat.{le_antisymm, le_trans, le_of_eq, lt_of_le_of_lt, lt_of_lt_of_le, lt_of_not-le}
+use native.Mathlib.Nat.{not-le_of_lt, pow-succ', eq-or-lt_of_le, mul-le-mul, mul-le-mul_right, mul_assoc}
+use native.Mathlib.Nat.{mul-div_cancel}
 use native.Mathlib.Omega.{arith}
 use mathlib.Core.Bool.{Bool, true, false, cond}
 use lib.Dec.{T, ltb, lt→ltb, lit<, lit≤}
@@ -33,7 +35,8 @@ places-below n k l u =
 pub whole-units : (a n d : ℕ) → 0 < d → a ≡ n * d → a / d ≡ n
 whole-units a n d D e = ap (λ (x : ℕ). x / d) e ∙ mul-div_cancel n D
 
-fields : (n k g : ℕ) → n ≡ g * 2 ^ k → 8388608 ≤ g → g < 16777216 → (size n - 24) * 8388608 + n / 2 ^ (size n - 24) ≡ k * 8388608 + g
+fields : (n k g : ℕ) → n ≡ g * 2 ^ k → 8388608 ≤ g → g < 16777216
+    → (size n - 24) * 8388608 + n / 2 ^ (size n - 24) ≡ k * 8388608 + g
 fields n k g e l u =
     let p = 2 ^ k in
     let P : 0 < p = pow_pos k in
@@ -43,7 +46,8 @@ fields n k g e l u =
     ap (λ (x : ℕ). x * 8388608 + n / 2 ^ x) s ∙ ap (λ (x : ℕ). k * 8388608 + x) (whole-units n g p P e)
 
 -- 2 ^ 24 has a digit more, and its leading one adds the one that is missing in the field
-fields_up : (n k g : ℕ) → n ≡ g * 2 ^ k → 8388608 ≤ g → g ≤ 16777216 → (size n - 24) * 8388608 + n / 2 ^ (size n - 24) ≡ k * 8388608 + g
+fields_up : (n k g : ℕ) → n ≡ g * 2 ^ k → 8388608 ≤ g → g ≤ 16777216
+    → (size n - 24) * 8388608 + n / 2 ^ (size n - 24) ≡ k * 8388608 + g
 fields_up n k g e l u =
     elim (eq-or-lt_of_le u) [
       | inl s ↦
@@ -57,7 +61,8 @@ fields_up n k g e l u =
     carry : suc k * 8388608 + 8388608 ≡ k * 8388608 + 16777216
     carry = omega arith
 
-bits_at : (x : Float) (k g : ℕ) → 8388608 ≤ g → g ≤ 16777216 → HasValue x false (g * 2 ^ k) (2 ^ 149) → to_bits binary32 x ≡ k * 8388608 + g
+bits_at : (x : Float) (k g : ℕ) → 8388608 ≤ g → g ≤ 16777216 → HasValue x false (g * 2 ^ k) (2 ^ 149)
+    → to_bits binary32 x ≡ k * 8388608 + g
 unfolding to_bits
 bits_at nan k g l u v = absurd v
 bits_at (inf s) k g l u v = absurd v
@@ -85,7 +90,8 @@ units-fits k g u h =
     cond_yes true x y h = refl
     cond_yes false x y h = absurd h
 
-pub units-bits : (k g : ℕ) → 8388608 ≤ g → g ≤ 16777216 → k ≤ 190 → units binary32 false g k ≡ of_bits binary32 (k * 8388608 + g)
+pub units-bits : (k g : ℕ) → 8388608 ≤ g → g ≤ 16777216 → k ≤ 190
+    → units binary32 false g k ≡ of_bits binary32 (k * 8388608 + g)
 units-bits k g l u h =
     sym (of_bits-to_bits binary32 (units binary32 false g k) (units-fits k g u h))
     ∙ ap (of_bits binary32) (bits_at (units binary32 false g k) k g l u (units_val binary32 false g k (in-range k g u h)))

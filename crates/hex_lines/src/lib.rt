@@ -7,7 +7,6 @@ mod words;
 
 use std::io;
 use std::io::Write;
-
 pub use words::{from_words, to_words};
 
 // Writes the words with a space between each two, and `end` after the last: a space where more

@@ -10,7 +10,8 @@ use Rattle.surface.specs.Triangles.{Triangle, shift}
 use Rattle.surface.specs.Limits.{fits}
 use Rattle.surface.specs.Whole.{surface_triangles, surface_vertex_count, surface_triangle_count, placeable}
 use Rattle.surface.specs.declared.quads.Split.TheVariants as Split
-use Rattle.kinds.specs.Lists.{next, ring, vertex, bottom_triangles, top_triangles, layers, closed_triangles, torus_triangles, tube_triangles, ribbon_triangles}
+use Rattle.kinds.specs.Lists.{next, ring, vertex, bottom_triangles, top_triangles, layers, closed_triangles}
+use Rattle.kinds.specs.Lists.{torus_triangles, tube_triangles, ribbon_triangles}
 use Rattle.kinds.specs.Kinds.{permitted, vertex_count, triangle_count, triangles_of, surface_of, layers_of, writable}
 use Rattle.kinds.specs.declared.topology.Topology.{Topology}
 use Rattle.kinds.specs.declared.topology.Topology.TheVariants.{Ribbon, Tube, Capsule, Torus, ClosedCylinder}
@@ -34,7 +35,8 @@ tube-list n m first =
     (λ g i. first + g * n + i) (λ g i. first + g * n + next n i) (λ g i. first + (g + 1) * n + i) (λ g i. first + (g + 1) * n + next n i)
     (λ g i. omega arith) (λ g i. omega arith) (λ g i. omega arith) (λ g i. omega arith)
 
-pub torus-list : (n N first : ℕ) → shift first (torus_triangles n N) ≡ grid_triangles Split.Torus Closed N Closed n first
+pub torus-list : (n N first : ℕ)
+    → shift first (torus_triangles n N) ≡ grid_triangles Split.Torus Closed N Closed n first
 torus-list n N first =
     shift-quads Split.Torus first N n
     (λ g i. vertex n g i) (λ g i. vertex n g (next n i)) (λ g i. vertex n (next N g) i) (λ g i. vertex n (next N g) (next n i))
@@ -54,7 +56,8 @@ layers-list n S first =
     (λ g i. first + 1 + g * n + i) (λ g i. first + 1 + g * n + next n i) (λ g i. first + 1 + (g + 1) * n + i) (λ g i. first + 1 + (g + 1) * n + next n i)
     (λ g i. omega arith) (λ g i. omega arith) (λ g i. omega arith) (λ g i. omega arith)
 
-top-list : (n S first : ℕ) → shift first (top_triangles n S) ≡ cap_triangles Top n (first + 1 + (S + 1) * n) (first + 1 + S * n)
+top-list : (n S first : ℕ)
+    → shift first (top_triangles n S) ≡ cap_triangles Top n (first + 1 + (S + 1) * n) (first + 1 + S * n)
 top-list n S first =
     shift-fan first n (n * (S + 1) + 1) (first + 1 + (S + 1) * n) (λ i. ring n S (next n i)) (λ i. ring n S i) (λ i. first + 1 + S * n + next n i) (λ i. first + 1 + S * n + i)
     (omega arith) (λ i. omega arith) (λ i. omega arith)

@@ -17,7 +17,9 @@ use Rattle.edges.specs.Edges.{Edge, edges, unmatched, NoneTwice, Within, least_s
 use Rattle.edges.proofs.GridList.{grid-within, grid-once, grid-unmatched}
 use Rattle.edges.proofs.Capped.{capped, capped-within, capped-once, capped-matched}
 use Rattle.edges.proofs.Matching.{matched-of, of-matched}
-use Rattle.kinds.specs.Lists.{next, ring, ribbon_quad, tube_quad, torus_quad, layer_quad, bottom_triangles, layers, top_triangles, closed_triangles, torus_triangles, tube_triangles, ribbon_triangles}
+use Rattle.kinds.specs.Lists.{next, ring, ribbon_quad, tube_quad, torus_quad, layer_quad, bottom_triangles}
+use Rattle.kinds.specs.Lists.{layers, top_triangles, closed_triangles, torus_triangles, tube_triangles}
+use Rattle.kinds.specs.Lists.{ribbon_triangles}
 use Rattle.kinds.specs.Kinds.{permitted, vertex_count, triangle_count, triangles_of, layers_of}
 use Rattle.kinds.specs.Claims.{Reverses, Enough, Claims}
 use Rattle.kinds.specs.declared.topology.Topology.{Topology}
@@ -40,7 +42,8 @@ record Listed (first v u : ℕ) (ts : List Triangle) : Type 0 where
   once : NoneTwice (edges ts)
   open-edges : unmatched (edges ts) ≡ u
 
-grid-listed : (split : Split.Split) (along round : Chain) (m n first v u : ℕ) → least_steps along ≤ m → least_steps round ≤ n
+grid-listed : (split : Split.Split) (along round : Chain) (m n first v u : ℕ) → least_steps along ≤ m
+    → least_steps round ≤ n
     → points_of along m * points_of round n ≡ v → n * ends along + m * ends round ≡ u → Listed first v u (grid_triangles split along m round n first)
 grid-listed split along round m n first v u hm hn ev eu = record {
   inside = subst (λ (x : ℕ). Within first (first + x) (grid_triangles split along m round n first)) ev (grid-within split along m round n first);
@@ -71,7 +74,8 @@ module _ (first : ℕ) where
 
 -- ---- how many triangles
 
-rows-length : (m n w : ℕ) (f : ℕ → ℕ → List Triangle) → ((g i : ℕ) → length (f g i) ≡ w) → length (blocks m (λ g. blocks n (f g))) ≡ m * (n * w)
+rows-length : (m n w : ℕ) (f : ℕ → ℕ → List Triangle) → ((g i : ℕ) → length (f g i) ≡ w)
+    → length (blocks m (λ g. blocks n (f g))) ≡ m * (n * w)
 rows-length m n w f h = length-blocks (n * w) m _ (λ g hg. length-blocks w n (f g) (λ i hi. h g i))
 
 closed-length : (n S : ℕ) → length (closed_triangles n S) ≡ 2 * n * (S + 1)
@@ -102,7 +106,8 @@ reversed (Capsule k) es e = search (matched-of, arith)
 reversed (Torus k) es e = search (matched-of, arith)
 reversed (ClosedCylinder k) es e = search (matched-of, arith)
 
-listed : (t : Topology) → Enough t → (first : ℕ) → Listed first (vertex_count t) (open_edges t) (shift first (triangles_of t))
+listed : (t : Topology) → Enough t → (first : ℕ)
+    → Listed first (vertex_count t) (open_edges t) (shift first (triangles_of t))
 listed (Ribbon k) h first = ribbon-listed first k.segments h
 listed (Tube k) h first = tube-listed first k.divisions k.segments h.0 h.1
 listed (Capsule k) h first = closed-listed first k.divisions (layers_of k) h.0 (omega arith)
@@ -113,7 +118,8 @@ counted : (t : Topology) → length (triangles_of t) ≡ triangle_count t
 counted (Ribbon k) = omega (arith, length-blocks 2 k.segments ribbon_quad (λ j l. refl))
 counted (Tube k) = omega (arith, rows-length k.segments k.divisions 2 (tube_quad k.divisions) (λ g i. refl))
 counted (Capsule k) = closed-length k.divisions (layers_of k)
-counted (Torus k) = omega (arith, rows-length k.vertices k.divisions 2 (torus_quad k.divisions k.vertices) (λ g i. refl))
+counted (Torus k) =
+    omega (arith, rows-length k.vertices k.divisions 2 (torus_quad k.divisions k.vertices) (λ g i. refl))
 counted (ClosedCylinder k) = closed-length k.divisions k.layers
 
 -- of the list that `write_triangles` writes
@@ -139,12 +145,15 @@ enough (Torus k) b = (b.0.0, b.1.0)
 enough (ClosedCylinder k) b = (b.0.0, b.1.0)
 
 -- every permitted body, local and with its first vertex added
-pub permitted-claims : (t : Topology) → permitted t ≡ true → Claims t 0 (triangles_of t) × ((first : ℕ) → Claims t first (shift first (triangles_of t)))
+pub permitted-claims : (t : Topology) → permitted t ≡ true
+    → Claims t 0 (triangles_of t) × ((first : ℕ) → Claims t first (shift first (triangles_of t)))
 permitted-claims t p = let h = enough t (bounds t p) in (local-claims t h, claims t h)
 
 -- "A capsule of n divisions and m segments has exactly 2n(2L + m - 1) triangles, L being its
 -- longitude divisions."
-pub capsule-triangles : (n L m : ℕ) → 3 ≤ 2 * L + m → length (triangles_of (Capsule (record { divisions = n; longitudes = L; segments = m }))) ≡ 2 * n * (2 * L + m - 1)
+pub capsule-triangles : (n L m : ℕ) → 3 ≤ 2 * L + m
+    → length (triangles_of (Capsule (record { divisions = n; longitudes = L; segments = m })))
+    ≡ 2 * n * (2 * L + m - 1)
 capsule-triangles n L m h =
     let e : 2 * L + m - 2 + 1 ≡ 2 * L + m - 1 = omega arith in
     closed-length n (2 * L + m - 2) ∙ ap (λ (x : ℕ). 2 * n * x) e

@@ -14,9 +14,12 @@ shift-append first (triangle a b c ∷ xs) ys = rw (shift-append first xs ys)
 
 shift-blocks : (first n : ℕ) (f : ℕ → List Triangle) → shift first (blocks n f) ≡ blocks n (λ k. shift first (f k))
 shift-blocks first zero f = refl
-shift-blocks first (suc n) f = shift-append first (blocks n f) (f n) ∙ ap (λ (l : List Triangle). l ++ shift first (f n)) (shift-blocks first n f)
+shift-blocks first (suc n) f =
+    shift-append first (blocks n f) (f n)
+    ∙ ap (λ (l : List Triangle). l ++ shift first (f n)) (shift-blocks first n f)
 
-shift-quad : (split : Split) (first a b d e : ℕ) → shift first (quad_of split a b d e) ≡ quad_of split (first + a) (first + b) (first + d) (first + e)
+shift-quad : (split : Split) (first a b d e : ℕ)
+    → shift first (quad_of split a b d e) ≡ quad_of split (first + a) (first + b) (first + d) (first + e)
 shift-quad Capped first a b d e = refl
 shift-quad Torus first a b d e = refl
 shift-quad Tube first a b d e = refl
@@ -35,7 +38,8 @@ shift-quads split first m n a b d e a' b' d' e' ea eb ed ee =
     ∙ blocks-cong n _ _ (λ i hi. shift-quad split first (a g i) (b g i) (d g i) (e g i) ∙ (λ j. quad_of split (ea g i j) (eb g i j) (ed g i j) (ee g i j))))
 
 -- The same of a fan.
-pub shift-fan : (first n p p' : ℕ) (x y x' y' : ℕ → ℕ) → first + p ≡ p' → ((i : ℕ) → first + x i ≡ x' i) → ((i : ℕ) → first + y i ≡ y' i)
+pub shift-fan : (first n p p' : ℕ) (x y x' y' : ℕ → ℕ) → first + p ≡ p' → ((i : ℕ) → first + x i ≡ x' i)
+    → ((i : ℕ) → first + y i ≡ y' i)
     → shift first (blocks n (λ i. triangle p (x i) (y i) ∷ [])) ≡ blocks n (λ i. triangle p' (x' i) (y' i) ∷ [])
 shift-fan first n p p' x y x' y' ep ex ey =
     shift-blocks first n _ ∙ blocks-cong n _ _ (λ i hi. λ j. triangle (ep j) (ex i j) (ey i j) ∷ [])

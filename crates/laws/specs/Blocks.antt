@@ -1,7 +1,10 @@
 -- A list made of blocks, one after the other ("for j from 0", "each layer g and each i" of
 -- document 01, 'Triangle lists'), and the law of every loop that writes one. Assumes nothing.
-use Rattle.std.specs.Prelude.{◌≡◌, refl, List, [], ◌∷◌, ◌++◌, map, ℕ, zero, suc, ◌+◌, ◌-◌, ◌*◌, ◌≤◌, ◌<◌, length, get_or, take}
-use Rattle.std.proofs.Common.{sym, ap, ◌∙◌, append-nil, append_assoc, ⊎_elim, suc-mul, zero-add, add-zero, add-suc, not-suc-le-zero, le_of_suc-le-suc, eq-or-lt_of_le, add-one, arith, length-append, take-suc, get_or-append-add}
+use Rattle.std.specs.Prelude.{◌≡◌, refl, List, [], ◌∷◌, ◌++◌, map, ℕ, zero, suc, ◌+◌, ◌-◌, ◌*◌, ◌≤◌, ◌<◌}
+use Rattle.std.specs.Prelude.{length, get_or, take}
+use Rattle.std.proofs.Common.{sym, ap, ◌∙◌, append-nil, append_assoc, ⊎_elim, suc-mul, zero-add, add-zero}
+use Rattle.std.proofs.Common.{add-suc, not-suc-le-zero, le_of_suc-le-suc, eq-or-lt_of_le, add-one, arith}
+use Rattle.std.proofs.Common.{length-append, take-suc, get_or-append-add}
 use Rattle.std.proofs.lemmas.List.{map-append}
 use Rattle.std.proofs.Math.ListN.{get_or-append}
 use Rattle.laws.specs.Overwrite.{overwrite, written_behind}

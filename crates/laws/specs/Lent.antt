@@ -2,7 +2,8 @@
 -- when it is back: "The body's own stretch of the vertex buffer is lent on to be filled"
 -- (document 01, 'The shared set'). Assumes nothing.
 use Rattle.std.specs.Prelude.{◌≡◌, refl, List, [], ◌∷◌, ◌++◌, ℕ, zero, suc, ◌+◌, ◌-◌, ◌≤◌, length, take, drop}
-use Rattle.std.proofs.Common.{sym, ap, ◌∙◌, append-nil, zero-add, suc-add, add-zero, not-suc-le-zero, le_of_suc-le-suc, arith, length-drop, drop_of_length-le, take_all}
+use Rattle.std.proofs.Common.{sym, ap, ◌∙◌, append-nil, zero-add, suc-add, add-zero, not-suc-le-zero}
+use Rattle.std.proofs.Common.{le_of_suc-le-suc, arith, length-drop, drop_of_length-le, take_all}
 use borrow.Rule.Slice.PartMut.{put_mid, post_of}
 use Rattle.laws.specs.Parts.{part}
 use Rattle.laws.specs.Overwrite.{overwrite}
@@ -52,7 +53,8 @@ module _ {X : Type 0} where
   drop-written (suc a) new (x ∷ old) = drop-written a new old
 
   -- `&s[a..e]` of k elements, once k elements were written there
-  pub part-written : (a k : ℕ) (new old : List X) → length new ≡ k → a + k ≤ length old → part a k (overwrite a new old) ≡ new
+  pub part-written : (a k : ℕ) (new old : List X) → length new ≡ k → a + k ≤ length old
+      → part a k (overwrite a new old) ≡ new
   part-written a k new old sized h =
       ap (λ (l : List X). take k l) (drop-written a new old)
       ∙ ap (λ (i : ℕ). take i (overwrite 0 new (drop a old))) (sym sized)

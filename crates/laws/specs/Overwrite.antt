@@ -1,19 +1,22 @@
--- What a buffer holds after a write, as one list: every element, as document 01, 'At review', wants it. Assumes nothing.
-use Rattle.std.specs.Prelude.{◌≡◌, refl, Bool, true, false, List, [], ◌∷◌, ◌++◌, ℕ, zero, suc, ◌+◌, ◌≤◌, ◌<◌, length, get_or, set}
+-- What a buffer holds after a write, as one list: every element, as document 01, 'At review',
+-- wants it. Assumes nothing.
+use Rattle.std.specs.Prelude.{◌≡◌, refl, Bool, true, false, List, [], ◌∷◌, ◌++◌, ℕ, zero, suc, ◌+◌, ◌≤◌, ◌<◌}
+use Rattle.std.specs.Prelude.{length, get_or, set}
 use Rattle.std.proofs.Common.{sym, ap, ◌∙◌, subst, suc-add, add-suc, not-suc-le-zero, le_of_suc-le-suc}
 use Rattle.std.proofs.Math.Numerals.{towards_suc}
 use Rattle.std.proofs.lemmas.List.Edits.{sets}
 
 module _ {ℓ} {A : Type ℓ} where
-  -- `old` with `new` written over it from place `at` on. What would fall past the end of `old` is not written, so the length stays
-  -- and the laws ask for no room.
+  -- `old` with `new` written over it from place `at` on. What would fall past the end of `old` is
+  -- not written, so the length stays and the laws ask for no room.
   abbrev pub overwrite : ℕ → List A → List A → List A
   overwrite at new [] = []
   overwrite zero [] (x ∷ old) = x ∷ old
   overwrite zero (y ∷ new) (x ∷ old) = y ∷ overwrite zero new old
   overwrite (suc at) new (x ∷ old) = x ∷ overwrite at new old
 
-  -- `old` with `new` at its front, or as it was ("leave all buffers untouched", 'Refused, and through whom')
+  -- `old` with `new` at its front, or as it was ("leave all buffers untouched", 'Refused, and
+  -- through whom')
   abbrev pub placed : Bool → List A → List A → List A
   placed true new old = overwrite zero new old
   placed false new old = old
@@ -32,7 +35,8 @@ module _ {ℓ} {A : Type ℓ} where
   overwrite-none (suc at) (x ∷ old) = ap (λ (r : List A). x ∷ r) (overwrite-none at old)
 
   -- two writes, one behind the other, are one
-  pub overwrite-append : (at : ℕ) (new more old : List A) → overwrite (at + length new) more (overwrite at new old) ≡ overwrite at (new ++ more) old
+  pub overwrite-append : (at : ℕ) (new more old : List A)
+      → overwrite (at + length new) more (overwrite at new old) ≡ overwrite at (new ++ more) old
   overwrite-append zero new more [] = refl
   overwrite-append zero [] more (x ∷ old) = refl
   overwrite-append zero (y ∷ new) more (x ∷ old) =
@@ -70,17 +74,20 @@ module _ {ℓ} {A : Type ℓ} where
   pub one_store : (p : ℕ) (v : A) (old : List A) → set old p v ≡ overwrite p (v ∷ []) old
   one_store p v old = stores p (v ∷ []) old
 
-  pub three-stores : (p : ℕ) (a b c : A) (old : List A) → set (set (set old p a) (p + 1) b) (p + 2) c ≡ overwrite p (a ∷ b ∷ c ∷ []) old
+  pub three-stores : (p : ℕ) (a b c : A) (old : List A)
+      → set (set (set old p a) (p + 1) b) (p + 2) c ≡ overwrite p (a ∷ b ∷ c ∷ []) old
   three-stores p a b c old = simp towards_suc (stores p (a ∷ b ∷ c ∷ []) old)
 
   -- each element after a write: before it, in it, past it
-  pub get_or-before : (at : ℕ) (new old : List A) (k : ℕ) (d : A) → k < at → get_or (overwrite at new old) k d ≡ get_or old k d
+  pub get_or-before : (at : ℕ) (new old : List A) (k : ℕ) (d : A) → k < at
+      → get_or (overwrite at new old) k d ≡ get_or old k d
   get_or-before zero new old k d h = absurd (not-suc-le-zero h)
   get_or-before (suc at) new [] k d h = refl
   get_or-before (suc at) new (x ∷ old) zero d h = refl
   get_or-before (suc at) new (x ∷ old) (suc k) d h = get_or-before at new old k d (le_of_suc-le-suc h)
 
-  pub get_or-within : (at : ℕ) (new old : List A) (k : ℕ) (d : A) → k < length new → at + k < length old → get_or (overwrite at new old) (at + k) d ≡ get_or new k d
+  pub get_or-within : (at : ℕ) (new old : List A) (k : ℕ) (d : A) → k < length new → at + k < length old
+      → get_or (overwrite at new old) (at + k) d ≡ get_or new k d
   get_or-within at new [] k d h r = absurd (not-suc-le-zero r)
   get_or-within zero [] (x ∷ old) k d h r = absurd (not-suc-le-zero h)
   get_or-within zero (y ∷ new) (x ∷ old) zero d h r = refl
@@ -91,12 +98,15 @@ module _ {ℓ} {A : Type ℓ} where
       ap (λ (i : ℕ). get_or (x ∷ overwrite at new old) i d) (suc-add at k)
       ∙ get_or-within at new old k d h (le_of_suc-le-suc (subst (λ (i : ℕ). i < suc (length old)) (suc-add at k) r))
 
-  pub get_d_past : (at : ℕ) (new old : List A) (k : ℕ) (d : A) → at + length new ≤ k → get_or (overwrite at new old) k d ≡ get_or old k d
+  pub get_d_past : (at : ℕ) (new old : List A) (k : ℕ) (d : A) → at + length new ≤ k
+      → get_or (overwrite at new old) k d ≡ get_or old k d
   get_d_past at new [] k d h = refl
   get_d_past zero [] (x ∷ old) k d h = refl
-  get_d_past zero (y ∷ new) (x ∷ old) zero d h = absurd (not-suc-le-zero (subst (λ (i : ℕ). i ≤ zero) (add-suc zero (length new)) h))
+  get_d_past zero (y ∷ new) (x ∷ old) zero d h =
+      absurd (not-suc-le-zero (subst (λ (i : ℕ). i ≤ zero) (add-suc zero (length new)) h))
   get_d_past zero (y ∷ new) (x ∷ old) (suc k) d h =
       get_d_past zero new old k d (le_of_suc-le-suc (subst (λ (i : ℕ). i ≤ suc k) (add-suc zero (length new)) h))
-  get_d_past (suc at) new (x ∷ old) zero d h = absurd (not-suc-le-zero (subst (λ (i : ℕ). i ≤ zero) (suc-add at (length new)) h))
+  get_d_past (suc at) new (x ∷ old) zero d h =
+      absurd (not-suc-le-zero (subst (λ (i : ℕ). i ≤ zero) (suc-add at (length new)) h))
   get_d_past (suc at) new (x ∷ old) (suc k) d h =
       get_d_past at new old k d (le_of_suc-le-suc (subst (λ (i : ℕ). i ≤ suc k) (suc-add at (length new)) h))

@@ -51,7 +51,12 @@ divisions-same (ClosedCylinder n S centred r l) N = refl
 divisions-same (SeamlessTorus n r) N = refl
 
 capsule-counted : (t : Topology) → permitted t ≡ true → (n L m : ℕ)
-    → t ≡ topology.Capsule (record { divisions = n; longitudes = L; segments = m }) → length (triangles_of t) ≡ 2 * n * (2 * L + m - 1)
+    → t ≡ topology.Capsule (record {
+      divisions =
+          n;
+      longitudes = L;
+      segments = m;
+    }) → length (triangles_of t) ≡ 2 * n * (2 * L + m - 1)
 capsule-counted t h n L m e =
     let capsule = topology.Capsule (record { divisions = n; longitudes = L; segments = m }) in
     subst (λ (x : Topology). permitted x ≡ true → length (triangles_of x) ≡ 2 * n * (2 * L + m - 1)) (sym e)

@@ -64,7 +64,8 @@ module _ (s₀ : Buffers) where
       kept-final rest best.1 (entered L a answer) (zeroed_by L a answer held) next
 
 -- what was written at the front is what the list begins with
-begins-itself : {A : Type 0} (set held : List A) → length set ≤ length held → overwrite 0 set held ≡ begins_with set (overwrite 0 set held)
+begins-itself : {A : Type 0} (set held : List A) → length set ≤ length held
+    → overwrite 0 set held ≡ begins_with set (overwrite 0 set held)
 begins-itself set held h =
     sym (overwrite-cover 0 set set held (omega arith)) ∙ overwrite-front set (overwrite 0 set held) (omega (arith, length-overwrite 0 set held))
 
@@ -109,9 +110,15 @@ module _ (s : Buffers) (L : Ledger) (list : List Call) (kept : Kept s L L s.vert
       record {
         twists = each-best list;
         answers = ap (λ (r : Called). r.answers) same;
-        table = ap (λ (r : Called). r.left.table) same ∙ overwrite-front (set_table last) s.table (table-room s last zeroed kept-last);
-        vertices = ap (λ (r : Called). r.left.vertices) same ∙ overwrite-front (set_vertices last) zeroed (vertex-room s last zeroed kept-last);
-        triangles = ap (λ (r : Called). r.left.triangles) same ∙ overwrite-front (set_triangles last) s.triangles (triangle-room s last zeroed kept-last);
+        table =
+            ap (λ (r : Called). r.left.table) same
+            ∙ overwrite-front (set_table last) s.table (table-room s last zeroed kept-last);
+        vertices =
+            ap (λ (r : Called). r.left.vertices) same
+            ∙ overwrite-front (set_vertices last) zeroed (vertex-room s last zeroed kept-last);
+        triangles =
+            ap (λ (r : Called). r.left.triangles) same
+            ∙ overwrite-front (set_triangles last) s.triangles (triangle-room s last zeroed kept-last);
         holds = subst (λ (r : Called). Holds r.left last) (sym same) (packed-holds s last zeroed kept-last);
         grown = kept-last.grown;
       }
@@ -123,10 +130,12 @@ grown-itself (then L b) = inl refl
 -- from a ledger that the buffers hold
 from-held : (s : Buffers) (L : Ledger) (list : List Call) → Holds s L → FromHeld s L list
 from-held s L list h =
-    let kept : Kept s L L s.vertices = record { limits = h.limits; each = h.each; grown = grown-itself L; sized = refl } in
+    let kept : Kept s L L s.vertices =
+    record { limits = h.limits; each = h.each; grown = grown-itself L; sized = refl } in
     let table = h.table ∙ sym (overwrite-front (set_table L) s.table (table-room s L s.vertices kept)) in
     let vertices = h.vertices ∙ sym (overwrite-front (set_vertices L) s.vertices (vertex-room s L s.vertices kept)) in
-    let triangles = h.triangles ∙ sym (overwrite-front (set_triangles L) s.triangles (triangle-room s L s.vertices kept)) in
+    let triangles =
+    h.triangles ∙ sym (overwrite-front (set_triangles L) s.triangles (triangle-room s L s.vertices kept)) in
     from-packed s L list kept (λ j. buffers (table j) (vertices j) (triangles j))
 
 -- a cleared set holds the empty ledger
@@ -147,7 +156,8 @@ module _ (s : Buffers) (ok : clear_answer s.table ≡ accepted tt) where
 
   -- it has the lengths that it had
   clear-lengths : lengths_of (cleared_set s) ≡ lengths_of s
-  clear-lengths = ap (λ (k : ℕ). lengths k (length s.vertices) (length s.triangles)) (length-overwrite 0 (0 ∷ []) s.table)
+  clear-lengths =
+      ap (λ (k : ℕ). lengths k (length s.vertices) (length s.triangles)) (length-overwrite 0 (0 ∷ []) s.table)
 
 -- past a set's table, which has word 0 at least, a clear leaves what was there
 past-clear : (n : ℕ) (set T : List ℕ) → drop (length (n ∷ set)) (overwrite 0 (0 ∷ []) T) ≡ drop (length (n ∷ set)) T

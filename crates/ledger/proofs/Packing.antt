@@ -40,8 +40,10 @@ use Rattle.ledger.proofs.Sizes.{length-table, length-set-vertices, length-set-tr
 use Rattle.ledger.proofs.ReadBack.{totals-read, not-damaged}
 
 -- a write right after the set's part of a buffer is part of the next set
-right-after : {A : Type 0} (set new old : List A) {at : ℕ} → at ≡ length set → overwrite at new (overwrite 0 set old) ≡ overwrite 0 (set ++ new) old
-right-after set new old e = ap (λ (k : ℕ). overwrite k new (overwrite 0 set old)) (omega arith) ∙ overwrite-append 0 set new old
+right-after : {A : Type 0} (set new old : List A) {at : ℕ} → at ≡ length set
+    → overwrite at new (overwrite 0 set old) ≡ overwrite 0 (set ++ new) old
+right-after set new old e =
+    ap (λ (k : ℕ). overwrite k new (overwrite 0 set old)) (omega arith) ∙ overwrite-append 0 set new old
 
 -- +0 past the set's part of a buffer, or nothing
 zeros-past : (is : Bool) (at : ℕ) (set new held : List Float) → length set ≤ at
@@ -49,7 +51,8 @@ zeros-past : (is : Bool) (at : ℕ) (set new held : List Float) → length set �
 zeros-past true at set new held h = overwrite-swap 0 at set new held (omega arith)
 zeros-past false at set new held h = refl
 
-length-zeroed : (is : Bool) (at : ℕ) (new held : List Float) → length (cond is (overwrite at new held) held) ≡ length held
+length-zeroed : (is : Bool) (at : ℕ) (new held : List Float)
+    → length (cond is (overwrite at new held) held) ≡ length held
 length-zeroed true at new held = length-overwrite at new held
 length-zeroed false at new held = refl
 
@@ -76,7 +79,8 @@ module _ (s₀ : Buffers) where
     pub grown : Grown L₀ L
     pub sized : length held ≡ length s₀.vertices
 
-  same-lengths : {L₀ : Ledger} (L : Ledger) (held : List Float) → Kept L₀ L held → lengths_of (packed L held) ≡ lengths_of s₀
+  same-lengths : {L₀ : Ledger} (L : Ledger) (held : List Float) → Kept L₀ L held
+      → lengths_of (packed L held) ≡ lengths_of s₀
   same-lengths L held kept =
       let v = length-overwrite 0 (set_vertices L) held ∙ kept.sized in
       (λ j. lengths (length-overwrite 0 (set_table L) s₀.table j) (v j) (length-overwrite 0 (set_triangles L) s₀.triangles j))

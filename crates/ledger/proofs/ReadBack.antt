@@ -15,12 +15,14 @@ use Rattle.laws.specs.Lent.{part-written}
 use Rattle.laws.specs.Every.{every}
 use Rattle.set_table.specs.Entries.{entry_words, words_of, entry_from, table_words, entry_in, entries_in, all_words}
 use Rattle.set_table.specs.Room.{lengths}
-use Rattle.set_table.specs.Table.{bodies_in, vertices_before, triangles_before, entry_sound, sound_at, undamaged, totals_in}
+use Rattle.set_table.specs.Table.{bodies_in, vertices_before, triangles_before, entry_sound, sound_at}
+use Rattle.set_table.specs.Table.{undamaged, totals_in}
 use Rattle.set_table.specs.declared.totals.Totals.{Totals}
 use Rattle.set_table.proofs.Tables.{reads-undamaged}
 use Rattle.set_table.proofs.Words.{all-words-next}
 use Rattle.shared_set.specs.Bodies.{Body, entry_of}
-use Rattle.ledger.specs.Ledger.{Ledger, empty, then, body_count, vertex_sum, triangle_sum, totals_of, entries_of, set_table}
+use Rattle.ledger.specs.Ledger.{Ledger, empty, then, body_count, vertex_sum, triangle_sum, totals_of}
+use Rattle.ledger.specs.Ledger.{entries_of, set_table}
 use Rattle.ledger.specs.Shapes.{EachShaped}
 use Rattle.ledger.specs.Holds.{Limited}
 use Rattle.ledger.proofs.Bodies.{kind-known}
@@ -32,7 +34,8 @@ Begins empty T = Unit
 Begins (then L b) T = Begins L T × (entry_in T (body_count L) ≡ entry_of (totals_of L) b)
 
 -- a part of what is written, whatever comes before and after it
-part-of-write : {A : Type 0} (front mid more old : List A) (at count : ℕ) → at ≡ length front → length mid ≡ count → at + count ≤ length old
+part-of-write : {A : Type 0} (front mid more old : List A) (at count : ℕ) → at ≡ length front
+    → length mid ≡ count → at + count ≤ length old
     → part at count (overwrite 0 (front ++ (mid ++ more)) old) ≡ mid
 part-of-write front mid more old at count is sized room =
     let begun = overwrite 0 front old in
@@ -59,23 +62,29 @@ begins (then L b) n more T room =
 
 vertices-read : (L : Ledger) (T : List ℕ) → Begins L T → vertices_before (entry_in T) (body_count L) ≡ vertex_sum L
 vertices-read empty T h = refl
-vertices-read (then L b) T h = ap (vertices_before (entry_in T)) (add-one (body_count L)) ∙ (λ j. vertices-read L T h.0 j + (h.1 j).vertices) ∙ omega arith
+vertices-read (then L b) T h =
+    ap (vertices_before (entry_in T)) (add-one (body_count L))
+    ∙ (λ j. vertices-read L T h.0 j + (h.1 j).vertices) ∙ omega arith
 
 triangles-read : (L : Ledger) (T : List ℕ) → Begins L T → triangles_before (entry_in T) (body_count L) ≡ triangle_sum L
 triangles-read empty T h = refl
-triangles-read (then L b) T h = ap (triangles_before (entry_in T)) (add-one (body_count L)) ∙ (λ j. triangles-read L T h.0 j + (h.1 j).triangles)
+triangles-read (then L b) T h =
+    ap (triangles_before (entry_in T)) (add-one (body_count L))
+    ∙ (λ j. triangles-read L T h.0 j + (h.1 j).triangles)
 
 same_entries : (L : Ledger) (T : List ℕ) → Begins L T → entries_in T (body_count L) ≡ entries_of L
 same_entries empty T h = refl
 same_entries (then L b) T h =
     ap (entries_in T) (add-one (body_count L)) ∙ (λ j. same_entries L T h.0 j ++ (h.1 j ∷ []))
 
-entry-sound : (L : Ledger) (b : Body) → EachShaped (then L b) → entry_sound (entry_of (totals_of L) b) (vertex_sum L) (triangle_sum L) ≡ true
+entry-sound : (L : Ledger) (b : Body) → EachShaped (then L b)
+    → entry_sound (entry_of (totals_of L) b) (vertex_sum L) (triangle_sum L) ≡ true
 unfolding entry_sound
 entry-sound L b s =
     λ j. kind-known (vertex_sum L) b s.1 j && (eq-eqb (vertex_sum L) (vertex_sum L) refl j && eq-eqb (triangle_sum L) (triangle_sum L) refl j)
 
-entries-sound : (L : Ledger) (T : List ℕ) → EachShaped L → Begins L T → every (body_count L) (sound_at (entry_in T)) ≡ true
+entries-sound : (L : Ledger) (T : List ℕ) → EachShaped L → Begins L T
+    → every (body_count L) (sound_at (entry_in T)) ≡ true
 entries-sound empty T s h = refl
 entries-sound (then L b) T s h =
     let here : sound_at (entry_in T) (body_count L) ≡ true =

@@ -8,7 +8,8 @@ use Rattle.set_table.specs.Entries.{entry_words, table_words, words_of, all_word
 use Rattle.set_table.specs.declared.totals.Totals.{Totals}
 use Rattle.set_table.proofs.Words.{all-words-next, vertex-total-next, triangle-total-next}
 use Rattle.shared_set.specs.Bodies.{Body, triangle_count_in, entry_of}
-use Rattle.ledger.specs.Ledger.{Ledger, empty, then, body_count, vertex_sum, triangle_sum, totals_of, entries_of, set_table, set_vertices, last_triangles, set_triangles}
+use Rattle.ledger.specs.Ledger.{Ledger, empty, then, body_count, vertex_sum, triangle_sum, totals_of}
+use Rattle.ledger.specs.Ledger.{entries_of, set_table, set_vertices, last_triangles, set_triangles}
 use Rattle.ledger.specs.Shapes.{EachShaped}
 use Rattle.ledger.proofs.Bodies.{length-shifted}
 

@@ -28,7 +28,8 @@ pub record FromHeld (s : Buffers) (L : Ledger) (list : List Call) : Type 0 where
   -- "After them the buffers begin with the ledger's set, bit for bit. Past it they hold what they
   -- held when the list began, with +0 in the vertex stretch of each 23."
   pub table : (additions list s).left.table ≡ begins_with (set_table (ledger_from s L list)) s.table
-  pub vertices : (additions list s).left.vertices ≡ begins_with (set_vertices (ledger_from s L list)) (zeroed_from s L list)
+  pub vertices : (additions list s).left.vertices
+      ≡ begins_with (set_vertices (ledger_from s L list)) (zeroed_from s L list)
   pub triangles : (additions list s).left.triangles ≡ begins_with (set_triangles (ledger_from s L list)) s.triangles
   -- so they hold the ledger after the list, which is L with the accepted bodies at its end
   pub holds : Holds (additions list s).left (ledger_from s L list)
@@ -47,7 +48,8 @@ pub record AfterClear (s : Buffers) (list : List Call) : Type 0 where
   pub twists : EachBest (tell list)
   pub answers : (clear_and_add list s).answers ≡ replies_to (lengths_of s) empty (tell list)
   pub table : (clear_and_add list s).left.table ≡ begins_with (set_table (ledger_of s list)) s.table
-  pub vertices : (clear_and_add list s).left.vertices ≡ begins_with (set_vertices (ledger_of s list)) (zeroed_vertices s list)
+  pub vertices : (clear_and_add list s).left.vertices
+      ≡ begins_with (set_vertices (ledger_of s list)) (zeroed_vertices s list)
   pub triangles : (clear_and_add list s).left.triangles ≡ begins_with (set_triangles (ledger_of s list)) s.triangles
   -- "In every body .."
   pub bodies : EachAdded (ledger_of s list)

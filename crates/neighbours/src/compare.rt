@@ -32,8 +32,8 @@ pub(crate) fn compare_past(end: usize, start: u32, words: &[u32]) -> Tally {
     }
 }
 
-// Compares words of which one is wrong, and a pattern of which one is: two differences. A comparison
-// that finds no difference anywhere shows here.
+// Compares words of which one is wrong, and a pattern of which one is: two differences. A
+// comparison that finds no difference anywhere shows here.
 pub(crate) fn compare_wrong() -> Tally {
     compare_words(&[1, 2, 3], 5, &[6, 7, 9]).plus(compare_past(1, 7, &[0, 8, 10]))
 }

@@ -11,7 +11,8 @@ use Rattle.laws.specs.Conjunction.{both_true}
 use Rattle.answers.specs.Answers.{Answer}
 use Rattle.set_table.specs.Buffers.{Buffers}
 use Rattle.ledger.specs.Calls.{Call, Called, addition, answered, additions}
-use Rattle.records.specs.Records.{head_words, most_vertices, vertices_named, head_names, begins_with_record, record_words}
+use Rattle.records.specs.Records.{head_words, most_vertices, vertices_named, head_names, begins_with_record}
+use Rattle.records.specs.Records.{record_words}
 use Rattle.records.specs.Records.{described_in, curve_in, addition_of, first_addition, additions_of, additions_in}
 
 -- what it tells that the words begin with a record, and which do
@@ -50,10 +51,12 @@ first_if words there = cond there (addition_of (described_in words) (curve_in wo
 abbrev all_if : List ℕ → List Call → Bool → List Call
 all_if words others there = cond there (first_addition words ++ others) []
 
-pub record-length : (words : List ℕ) → begins_with_record words ≡ true → record_words words ≡ head_words + 3 * vertices_named words
+pub record-length : (words : List ℕ) → begins_with_record words ≡ true
+    → record_words words ≡ head_words + 3 * vertices_named words
 record-length words h = ap (words_if words) h
 
-pub first-addition : (words : List ℕ) → begins_with_record words ≡ true → first_addition words ≡ addition_of (described_in words) (curve_in words)
+pub first-addition : (words : List ℕ) → begins_with_record words ≡ true
+    → first_addition words ≡ addition_of (described_in words) (curve_in words)
 first-addition words h = ap (first_if words) h
 
 pub no-addition : (words : List ℕ) → begins_with_record words ≡ false → first_addition words ≡ []
@@ -101,7 +104,8 @@ enough (suc n) (suc m) words h k =
     same-others words (begins_with_record words) (additions_of n rest) (additions_of m rest) refl
     (λ b. enough n m rest (shorter b n h) (shorter b m k))
   where
-    shorter : begins_with_record words ≡ true → (n : ℕ) → length words ≤ suc n → length (drop (record_words words) words) ≤ n
+    shorter : begins_with_record words ≡ true → (n : ℕ) → length words ≤ suc n
+        → length (drop (record_words words) words) ≤ n
     shorter b n h = omega (arith, length-drop (record_words words) words, record-length words b, (whole words b).head)
 
 -- one record, and the others after it
@@ -130,4 +134,5 @@ preceded_by before r = record { answers = before ++ r.answers; left = r.left }
 pub additions-append : (list more : List Call) (s : Buffers)
     → additions (list ++ more) s ≡ preceded_by (additions list s).answers (additions more (additions list s).left)
 additions-append [] more s = refl
-additions-append (a ∷ list) more s = ap (answered (addition a s).answer) (additions-append list more (addition a s).left)
+additions-append (a ∷ list) more s =
+    ap (answered (addition a s).answer) (additions-append list more (addition a s).left)

@@ -10,7 +10,8 @@ use lib.Dec.{leb}
 use lib.ListN.{length, take, length-take}
 use lib.Seq.{length-take-le, get_or-take, take-take}
 use Rattle.laws.specs.Conjunction.{both_true}
-use Rattle.records.specs.Records.{head_words, most_vertices, vertices_named, head_names, length_named, begins_with_record, record_words}
+use Rattle.records.specs.Records.{head_words, most_vertices, vertices_named, head_names, length_named}
+use Rattle.records.specs.Records.{begins_with_record, record_words}
 use Rattle.records.proofs.Additions.{whole, whole-begins, record-length}
 
 module _ (words : List ℕ) where
@@ -45,7 +46,8 @@ module _ (words : List ℕ) where
     by false e = sym (λ j. words_if (e j) (leb whole_length (length words)))
 
   -- 0, or a head and at most 512 vertices
-  pub named-bounds : {n : ℕ} → n ≡ length_named words → (n ≡ 0 → ⊥) → (head_words ≤ n) × (n ≤ head_words + 3 * most_vertices)
+  pub named-bounds : {n : ℕ} → n ≡ length_named words → (n ≡ 0 → ⊥)
+      → (head_words ≤ n) × (n ≤ head_words + 3 * most_vertices)
   unfolding head_names
   named-bounds {n} is some = by (head_names words) refl where
     by : (b : Bool) → head_names words ≡ b → (head_words ≤ n) × (n ≤ head_words + 3 * most_vertices)
@@ -88,7 +90,8 @@ record-fits words = by (begins_with_record words) refl where
 
 -- a record at the front of the first k words lies at the front of all, and has all of its own
 -- words
-pub first_alone : (k : ℕ) (words : List ℕ) {r : ℕ} → r ≡ record_words (take k words) → (r ≤ length words) × (r ≡ record_words (take r words))
+pub first_alone : (k : ℕ) (words : List ℕ) {r : ℕ} → r ≡ record_words (take k words)
+    → (r ≤ length words) × (r ≡ record_words (take r words))
 first_alone k words {r} is =
     let fits : r ≤ length (take k words) = omega (arith, is, record-fits (take k words)) in (
       omega (arith, fits, length-take k words),

@@ -16,7 +16,8 @@ use Rattle.records.specs.Records.{begins_with_record, record_words, first_additi
 use Rattle.records.specs.Built.{replies_in, numbers_of}
 use Rattle.records.specs.declared.reply.Reply.{Reply}
 use Rattle.records.specs.declared.reply.Reply.TheVariants.{Skipped, Answered}
-use Rattle.records.proofs.Additions.{whole, record-length, additions-next, additions-none, preceded_by, additions-append}
+use Rattle.records.proofs.Additions.{whole, record-length, additions-next, additions-none, preceded_by}
+use Rattle.records.proofs.Additions.{additions-append}
 
 -- The records before place `at` have been read and i answers written. The buffers held s₀ and
 -- answers₀, and hold s and answers.
@@ -37,7 +38,8 @@ one-reply Skipped = omega arith
 one-reply (Answered outcome) = omega arith
 
 -- the calls of the first record, and those of the others after them
-first-apart : (words : List ℕ) (s : Buffers) → begins_with_record words ≡ true → let first = additions (first_addition words) s in
+first-apart : (words : List ℕ) (s : Buffers) → begins_with_record words ≡ true
+    → let first = additions (first_addition words) s in
     additions (additions_in words) s ≡ preceded_by first.answers (additions (additions_in (drop (record_words words) words)) first.left)
 first-apart words s begins =
     ap (λ (list : List Call). additions list s) (additions-next words begins)

@@ -2,7 +2,8 @@
 -- 5), centre flag (0 false, else true), size bits, length bits, curve vertex count, the
 -- coordinates" (document 01, 'The shared set'), and the additions that they ask for. Definitions
 -- only.
-use Rattle.std.specs.Prelude.{Bool, cond, not, ◌&&◌, List, [], ◌∷◌, ◌++◌, map, ℕ, zero, suc, ◌+◌, ◌*◌, eqb, leb, Float, length, get_or, drop}
+use Rattle.std.specs.Prelude.{Bool, cond, not, ◌&&◌, List, [], ◌∷◌, ◌++◌, map, ℕ, zero, suc, ◌+◌, ◌*◌, eqb}
+use Rattle.std.specs.Prelude.{leb, Float, length, get_or, drop}
 use Rattle.std.specs.Float.{binary32}
 use Rattle.std.specs.Float.Ieee.{of_bits}
 use Rattle.laws.specs.Parts.{part}

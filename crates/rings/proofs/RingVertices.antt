@@ -19,7 +19,8 @@ pub torus-vertices : (a : Axes) (r : Float) → ring_vertex (ring_at SumFirst a 
 unfolding ring_around sum_first torus_vertex thrice scaled product_of
 torus-vertices a r = refl
 
-cap-vertices : (end : End) (a : Axes) (r : Float) (L j : ℕ) → ring_vertex (cap_ring end a r L j) ≡ cap_vertex end a r L j
+cap-vertices : (end : End) (a : Axes) (r : Float) (L j : ℕ)
+    → ring_vertex (cap_ring end a r L j) ≡ cap_vertex end a r L j
 unfolding ring_around two_terms bottom_vertex top_vertex thrice scaled product_of
 cap-vertices Bottom a r L j = refl
 cap-vertices Top a r L j = refl

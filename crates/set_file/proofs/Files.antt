@@ -18,7 +18,8 @@ use Rattle.set_table.specs.Table.{bodies_in, totals_in, table_tests, reading_of}
 use Rattle.set_table.proofs.Words.{table-words, table-totals}
 use Rattle.set_table.specs.Buffers.{Buffers}
 use Rattle.set_table.specs.declared.totals.Totals.{Totals}
-use Rattle.set_file.specs.File.{file_head, file_body, entries_held, floats_held, indices_held, file_in, end_tests, word_in, file_word_of}
+use Rattle.set_file.specs.File.{file_head, file_body, entries_held, floats_held, indices_held, file_in}
+use Rattle.set_file.specs.File.{end_tests, word_in, file_word_of}
 
 -- a word of a list, and none past its end
 word-here : (xs : List ℕ) (place : ℕ) → place < length xs → accepted (get_or xs place 0) ≡ word_in xs place
@@ -41,7 +42,8 @@ word-add (x ∷ xs) ys k =
     word-add xs ys k ∙ word_more x (xs ++ ys) (length xs + k) ∙ ap (word_in (x ∷ (xs ++ ys))) (sym (suc-add (length xs) k))
 
 -- a word after the first list, which has n words
-word-behind : (xs ys : List ℕ) (place : ℕ) {n : ℕ} → length xs ≡ n → n ≤ place → word_in ys (place - n) ≡ word_in (xs ++ ys) place
+word-behind : (xs ys : List ℕ) (place : ℕ) {n : ℕ} → length xs ≡ n → n ≤ place
+    → word_in ys (place - n) ≡ word_in (xs ++ ys) place
 word-behind xs ys place {n} e h = word-add xs ys (place - n) ∙ ap (word_in (xs ++ ys)) (omega arith)
 
 -- the entries' words, and the vertices'
@@ -88,14 +90,16 @@ module _ (t : Totals) (s : Buffers) (held : Held t s) (place : ℕ) where
   triangles-length : length (indices_held t s) ≡ 3 * t.triangles
   triangles-length = length_part 0 (3 * t.triangles) s.triangles (omega (arith, held.1.1))
 
-  pub entry-word : place < entry_words * t.bodies → accepted (get_or s.table (1 + place) 0) ≡ word_in (body_in t s) place
+  pub entry-word : place < entry_words * t.bodies
+      → accepted (get_or s.table (1 + place) 0) ≡ word_in (body_in t s) place
   entry-word h =
       ap accepted (sym (get_d_part 1 (entry_words * t.bodies) s.table place 0 h) ∙ ap (λ (l : List ℕ). get_or l place 0) (sym entries-there))
       ∙ word-front (entry_words_in t s) (float_words t s ++ indices_held t s) place (omega (arith, entries-length))
 
   module _ (past-entries : entry_words * t.bodies ≤ place) where
     behind-entries : word_in (float_words t s ++ indices_held t s) (among_floats t place) ≡ word_in (body_in t s) place
-    behind-entries = word-behind (entry_words_in t s) (float_words t s ++ indices_held t s) place entries-length past-entries
+    behind-entries =
+        word-behind (entry_words_in t s) (float_words t s ++ indices_held t s) place entries-length past-entries
 
     pub vertex-word : among_floats t place < 3 * t.vertices
         → accepted (to_bits binary32 (get_or s.vertices (among_floats t place) nan)) ≡ word_in (body_in t s) place
@@ -108,7 +112,9 @@ module _ (t : Totals) (s : Buffers) (held : Held t s) (place : ℕ) where
 
     module _ (past-vertices : 3 * t.vertices ≤ among_floats t place) where
       behind-floats : word_in (indices_held t s) (among_triangles t place) ≡ word_in (body_in t s) place
-      behind-floats = word-behind (float_words t s) (indices_held t s) (among_floats t place) floats-length past-vertices ∙ behind-entries
+      behind-floats =
+          word-behind (float_words t s) (indices_held t s) (among_floats t place) floats-length past-vertices
+          ∙ behind-entries
 
       pub triangle-word : among_triangles t place < 3 * t.triangles
           → accepted (get_or s.triangles (among_triangles t place) 0) ≡ word_in (body_in t s) place
@@ -119,7 +125,8 @@ module _ (t : Totals) (s : Buffers) (held : Held t s) (place : ℕ) where
           ∙ behind-floats
 
       pub no_word : 3 * t.triangles ≤ among_triangles t place → refused 5 ≡ word_in (body_in t s) place
-      no_word h = word-past (indices_held t s) (among_triangles t place) (omega (arith, triangles-length)) ∙ behind-floats
+      no_word h =
+          word-past (indices_held t s) (among_triangles t place) (omega (arith, triangles-length)) ∙ behind-floats
 
 -- a table that is read as t leaves the answer to the file, and a damaged one has no file
 module _ (s : Buffers) (place : ℕ) where

@@ -4,7 +4,8 @@ ghost use Rattle.set_table.specs.Entries.{table_words};
 ghost use Rattle.set_table.specs.Room.{most_bodies};
 ghost use Rattle.set_table.specs.Buffers.{buffers};
 ghost use Rattle.set_file.specs.Answers.{word_answer};
-ghost use Rattle.set_file.specs.File.{file_head, file_body, entries_held, floats_held, indices_held, word_in, file_word_of};
+ghost use Rattle.set_file.specs.File.{file_head, file_body, entries_held, floats_held, indices_held, word_in};
+ghost use Rattle.set_file.specs.File.{file_word_of};
 
 use crate::word::FileWord;
 use answers::Refusal;

@@ -12,7 +12,8 @@ use Rattle.set_table.specs.Room.{Lengths, Fits, most_bodies, entry_permitted}
 use Rattle.set_table.specs.declared.totals.Totals.{Totals}
 use Rattle.surface.proofs.Totals.{fits-bounds}
 
-entry-permitted : (B lent : ℕ) → B ≤ most_bodies → entry_permitted B lent ≡ true → (B < most_bodies) × (table_words (B + 1) ≤ lent)
+entry-permitted : (B lent : ℕ) → B ≤ most_bodies → entry_permitted B lent ≡ true
+    → (B < most_bodies) × (table_words (B + 1) ≤ lent)
 unfolding entry_permitted
 entry-permitted B lent most h =
     let both = both_true (not (eqb B most_bodies)) (leb (table_words (B + 1)) lent) h in

@@ -20,7 +20,8 @@ use Rattle.set_table.specs.declared.entries.Entry.{Entry}
 use Rattle.set_table.specs.declared.totals.Totals.{Totals}
 
 -- what a sound head is
-pub head-bounds : (T : List ℕ) → head_sound T ≡ true → (1 ≤ length T) × (bodies_in T ≤ 64) × (table_words (bodies_in T) ≤ length T)
+pub head-bounds : (T : List ℕ) → head_sound T ≡ true
+    → (1 ≤ length T) × (bodies_in T ≤ 64) × (table_words (bodies_in T) ≤ length T)
 unfolding head_sound
 head-bounds T h =
     let B = bodies_in T in
@@ -45,7 +46,8 @@ both_fit v r vertices triangles = fits vertices v && fits triangles r
 
 -- what a reading answers that has added up these totals, by whether they fit
 abbrev pub answered : List ℕ → Bool → ℕ → ℕ → Answer Totals
-answered T p vertices triangles = first_of (test 1 p ∷ []) (record { bodies = bodies_in T; vertices = vertices; triangles = triangles })
+answered T p vertices triangles =
+    first_of (test 1 p ∷ []) (record { bodies = bodies_in T; vertices = vertices; triangles = triangles })
 
 -- What the first j entries add up to, each of which is sound.
 pub record Summed (T : List ℕ) (j v t : ℕ) : Type 0 where
@@ -58,7 +60,8 @@ module _ (T : List ℕ) {j v t : ℕ} (before : Summed T j v t) where
   entry-tested : {e : Entry} {b : Bool} → e ≡ entry_in T j → entry_sound e v t ≡ b → sound_at (entry_in T) j ≡ b
   entry-tested is tested = (λ i. entry_sound (sym is i) (sym before.vertices i) (sym before.triangles i)) ∙ tested
 
-  pub summed-next : {e : Entry} → e ≡ entry_in T j → entry_sound e v t ≡ true → Summed T (j + 1) (v + e.vertices) (t + e.triangles)
+  pub summed-next : {e : Entry} → e ≡ entry_in T j → entry_sound e v t ≡ true
+      → Summed T (j + 1) (v + e.vertices) (t + e.triangles)
   summed-next is sound = record {
     vertices = sum-next j (λ i. (entry_in T i).vertices) before.vertices refl (ap (λ (e : Entry). e.vertices) is);
     triangles = sum-next j (λ i. (entry_in T i).triangles) before.triangles refl (ap (λ (e : Entry). e.triangles) is);
@@ -84,7 +87,8 @@ module _ (T : List ℕ) (v r : ℕ) where
   tests = refl
 
   -- the same, with the two tests of each total together
-  tested-in-turn : undamaged T v r ≡ head_sound T && (each && both_fit v r (totals_in T).vertices (totals_in T).triangles)
+  tested-in-turn : undamaged T v r
+      ≡ head_sound T && (each && both_fit v r (totals_in T).vertices (totals_in T).triangles)
   unfolding fits
   tested-in-turn =
       let vs = leb (totals_in T).vertices (2 ^ 28) in
@@ -136,13 +140,17 @@ module _ (T : List ℕ) (v r : ℕ) where
   pub head-damaged : head_sound T ≡ false → refused 1 ≡ reading_of T v r
   head-damaged h = damaged (tests ∙ (λ i. (h i && (each && below)) && inside))
 
-  pub entry-damaged : {j x y : ℕ} {e : Entry} → Summed T j x y → j < B → e ≡ entry_in T j → entry_sound e x y ≡ false → refused 1 ≡ reading_of T v r
+  pub entry-damaged : {j x y : ℕ} {e : Entry} → Summed T j x y → j < B → e ≡ entry_in T j
+      → entry_sound e x y ≡ false → refused 1 ≡ reading_of T v r
   entry-damaged {j} before h is fails =
       let some = every-fails B (sound_at (entry_in T)) j h (entry-tested T before is fails) in
       damaged (tests ∙ (λ i. (head_sound T && (some i && below)) && inside) ∙ ap (λ (b : Bool). b && inside) (and-false (head_sound T)))
 
   -- the reading of a table whose entries are sound
-  pub summed-read : {x y : ℕ} {p : Bool} → head_sound T ≡ true → Summed T B x y → p ≡ both_fit v r x y → answered T p x y ≡ reading_of T v r
+  pub summed-read : {x y : ℕ} {p : Bool} → head_sound T ≡ true → Summed T B x y → p ≡ both_fit v r x y
+      → answered T p x y ≡ reading_of T v r
   summed-read {p = p} head all is =
-      let right : p ≡ undamaged T v r = is ∙ (λ i. sym head i && (sym all.sound i && both_fit v r (all.vertices i) (all.triangles i))) ∙ sym tested-in-turn in
+      let right : p ≡ undamaged T v r =
+      is ∙ (λ i. sym head i && (sym all.sound i && both_fit v r (all.vertices i) (all.triangles i)))
+      ∙ sym tested-in-turn in
       (λ i. answered T (right i) (all.vertices i) (all.triangles i))

@@ -23,7 +23,8 @@ use Rattle.shared_set.specs.Additions.{Addition, fit_tests, finite_tests, place_
 use Rattle.shared_set.specs.Set.{after, with_zeros, after_answer}
 
 -- "leave all buffers untouched, save 23"
-pub untouched : {k : ℕ} (t : Totals) (b : Body) (s : Buffers) {answer : Answer (Unit {0})} → eqb k not_finite ≡ false → refused k ≡ answer
+pub untouched : {k : ℕ} (t : Totals) (b : Body) (s : Buffers) {answer : Answer (Unit {0})}
+    → eqb k not_finite ≡ false → refused k ≡ answer
     → after (refused k) s.table s.vertices s.triangles ≡ after_answer t b s answer
 untouched {k} t b s other h =
     (λ j. after (refused k) s.table (cond (sym other j) (with_zeros t b s.vertices) s.vertices) s.triangles)
@@ -45,7 +46,8 @@ module _ (a : Addition) where
     pub tests : AllPermitted (segment_tests d c)
     pub shape : ShapePermitted d (vertices_in c)
 
-  pub checked : {body : Topology} → accepted body ≡ first_of (segment_tests d c) (topology_of d (vertices_in c)) → Checked body
+  pub checked : {body : Topology} → accepted body ≡ first_of (segment_tests d c) (topology_of d (vertices_in c))
+      → Checked body
   checked h =
       let told = accepted-by (segment_tests d c) (topology_of d (vertices_in c)) h in
       record { same = told.0; tests = told.1; shape = (segments-shape d c told.1).1 }
@@ -76,13 +78,16 @@ module _ (a : Addition) where
       fold-or true e = refused-by (fit_tests lent t d c) (finite_tests a) tt tt e
       fold-or false e = refl
 
-      other-fold : (folds : Bool) {k : ℕ} → refused k ≡ answer_of (fit_tests lent t d c) → eqb (cond folds k 13) not_finite ≡ false
+      other-fold : (folds : Bool) {k : ℕ} → refused k ≡ answer_of (fit_tests lent t d c)
+          → eqb (cond folds k 13) not_finite ≡ false
       other-fold true e = other-than not_finite (fit_tests lent t d c) tt (refl, (refl, (refl, tt))) e
       other-fold false e = refl
 
-      pub refused-room : {k : ℕ} → refused k ≡ answer_of (fit_tests lent t d c) → let n = cond (curve_folds_permitted d c) k 13 in
+      pub refused-room : {k : ℕ} → refused k ≡ answer_of (fit_tests lent t d c)
+          → let n = cond (curve_folds_permitted d c) k 13 in
           (eqb n not_finite ≡ false) × (refused n ≡ answer_of (addition_tests lent t a))
-      refused-room e = (other-fold (curve_folds_permitted d c) e, fold-or (curve_folds_permitted d c) e ∙ after-segments)
+      refused-room e =
+          (other-fold (curve_folds_permitted d c) e, fold-or (curve_folds_permitted d c) e ∙ after-segments)
 
       -- where it has room, 13 and 23 are left to be tried
       pub enough-room : AllPermitted (fit_tests lent t d c)

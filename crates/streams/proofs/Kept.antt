@@ -1,5 +1,6 @@
 -- What reads and writes do to the known bytes, one after the other. Assumes nothing.
-use Rattle.std.proofs.Common.{append_assoc, subst, IfSome, ◌≡◌, ℕ, ◌+◌, ◌-◌, ◌≤◌, List, ◌++◌, ◌∙◌, sym, ap, le_refl, length, take, drop, drop_at, length-take-le}
+use Rattle.std.proofs.Common.{append_assoc, subst, IfSome, ◌≡◌, ℕ, ◌+◌, ◌-◌, ◌≤◌, List, ◌++◌, ◌∙◌, sym, ap}
+use Rattle.std.proofs.Common.{le_refl, length, take, drop, drop_at, length-take-le}
 use Rattle.std.proofs.lemmas.Slice.{take-put_mid_below}
 use Rattle.std.proofs.lemmas.List.{take_rest}
 use borrow.Rule.Slice.PartMut.{put_mid, post_of}

@@ -1,6 +1,8 @@
--- The words of a head and of what follows it: what they are once they were read, and whether they begin with a record.
--- Assumes nothing.
-use Rattle.std.proofs.Common.{◌≡◌, ℕ, ◌+◌, ◌-◌, ◌*◌, ◌/◌, ◌≤◌, ◌<◌, min, Bool, true, false, cond, ◌&&◌, List, [], ◌++◌, ◌∙◌, refl, sym, ap, subst, arith, length, take, drop, get_or, length-append, length-take}
+-- The words of a head and of what follows it: what they are once they were read, and whether they
+-- begin with a record. Assumes nothing.
+use Rattle.std.proofs.Common.{◌≡◌, ℕ, ◌+◌, ◌-◌, ◌*◌, ◌/◌, ◌≤◌, ◌<◌, min, Bool, true, false, cond, ◌&&◌, List}
+use Rattle.std.proofs.Common.{[], ◌++◌, ◌∙◌, refl, sym, ap, subst, arith, length, take, drop, get_or}
+use Rattle.std.proofs.Common.{length-append, length-take}
 use borrow.Author.Tests.{le-leb, lt-leb, leb-true, leb-false}
 use lib.Dec.{leb}
 use Rattle.std.proofs.Math.ListN.{get_or-append}
@@ -18,7 +20,8 @@ use Rattle.streams.specs.Record.{NamesTooMany, IsCutShort, ReadFrom}
 use Rattle.streams.proofs.Words.{length-words, words-append}
 
 -- words that were read to the front of a buffer with room for them
-pub read_back : (count : ℕ) (bytes words₀ : List ℕ) {words : List ℕ} {r : Bool} → length bytes ≡ 4 * count → count ≤ length words₀
+pub read_back : (count : ℕ) (bytes words₀ : List ℕ) {words : List ℕ} {r : Bool} → length bytes ≡ 4 * count
+    → count ≤ length words₀
     → r ≡ leb (length bytes / 4) (length words₀) → words ≡ placed r (words_in bytes) words₀ → take count words ≡ words_in bytes
 read_back count bytes words₀ sized room is written =
     let fits : length bytes / 4 ≤ length words₀ = omega arith in
@@ -44,7 +47,8 @@ unfolding head_names
 too_many words has none = (has, by (leb (vertices_named words) 512) refl) where
   by : (b : Bool) → leb (vertices_named words) 512 ≡ b → 512 < vertices_named words
   by true e =
-      let named : length_named words ≡ 7 + 3 * vertices_named words = λ j. cond (le-leb 7 (length words) has j && e j) (7 + 3 * vertices_named words) 0 in
+      let named : length_named words ≡ 7 + 3 * vertices_named words =
+      λ j. cond (le-leb 7 (length words) has j && e j) (7 + 3 * vertices_named words) 0 in
       absurd (omega (arith, named, none))
   by false e = leb-false (vertices_named words) 512 e
 
@@ -89,7 +93,8 @@ no_head bytes few =
     (sym (all_there words (sym none) (omega arith)), λ has. absurd (omega (arith, has, short)))
 
 -- a head that names too many vertices, whatever follows it
-pub still_too_many : (head more : List ℕ) → length head ≡ 28 → length_named (words_in head) ≡ 0 → NamesTooMany (words_in (head ++ more))
+pub still_too_many : (head more : List ℕ) → length head ≡ 28 → length_named (words_in head) ≡ 0
+    → NamesTooMany (words_in (head ++ more))
 still_too_many head more sized none =
     let seven : 7 ≤ length (words_in head) = omega (arith, length-words head) in
     let split = words-append 7 head more sized in
@@ -105,4 +110,5 @@ pub behind_head : (old mid new : Option (List ℕ)) (head : List ℕ) (next : Ne
 behind_head None mid new head (Record count) found p (bytes, q, sized, read) = (bytes, tt, sized, read)
 behind_head None mid new head (StopsFor why) found p q = tt
 behind_head (Some x) None new head next found p q = absurd p
-behind_head (Some x) (Some y) new head next found p q = subst (λ (l : List ℕ). ReadFrom (Some l) new next found) (sym p) q
+behind_head (Some x) (Some y) new head next found p q =
+    subst (λ (l : List ℕ). ReadFrom (Some l) new next found) (sym p) q

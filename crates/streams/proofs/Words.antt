@@ -1,5 +1,6 @@
 -- The words of bytes that were read in two parts, a head and what follows it. Assumes nothing.
-use Rattle.std.proofs.Common.{◌≡◌, ℕ, ◌+◌, ◌*◌, ◌/◌, ◌≤◌, ◌<◌, List, [], ◌∷◌, ◌++◌, add-zero, ◌∙◌, refl, sym, ap, arith, length, get_or, length-append, get_or-append-add}
+use Rattle.std.proofs.Common.{◌≡◌, ℕ, ◌+◌, ◌*◌, ◌/◌, ◌≤◌, ◌<◌, List, [], ◌∷◌, ◌++◌, add-zero, ◌∙◌, refl, sym}
+use Rattle.std.proofs.Common.{ap, arith, length, get_or, length-append, get_or-append-add}
 use Rattle.std.proofs.Math.ListN.{get_or-append}
 use Rattle.laws.specs.Blocks.{blocks, length-blocks, blocks-cong, blocks-split}
 use Rattle.little_endian.specs.Words.{word_of, word_at, words_in}

@@ -1,5 +1,5 @@
--- What a read of the next record says of the words that it leaves, and, where the bytes of the input are known, which
--- of them these words are. Definitions only.
+-- What a read of the next record says of the words that it leaves, and, where the bytes of the
+-- input are known, which of them these words are. Definitions only.
 use Rattle.std.specs.Prelude.{◌≡◌, List, [], ℕ, ◌*◌, ◌≤◌, ◌<◌, length, take, IfSome}
 use Rattle.std.specs.declared.option.Option.{Option}
 use Rattle.std.specs.Io.KnownBytes.{Consumes}
@@ -30,7 +30,8 @@ StopsBefore Short bytes = (0 < length bytes) × IsCutShort (words_in bytes)
 StopsBefore TooLong bytes = NamesTooMany (words_in bytes)
 StopsBefore (Failed error) bytes = Unit
 
--- the known bytes lost those of the record, whose words are at the front of `words`; or they begin with no record
+-- the known bytes lost those of the record, whose words are at the front of `words`; or they begin
+-- with no record
 abbrev pub ReadFrom : Option (List ℕ) → Option (List ℕ) → Next → List ℕ → Type 0
 ReadFrom old new (Record count) words =
     (bytes : List ℕ) × Consumes old new bytes × (length bytes ≡ 4 * count) × (words_in bytes ≡ take count words)

@@ -29,7 +29,8 @@ below-append bound (n ∷ l) m b c = (b.0, below-append bound l m b.1 c)
 
 pub below-blocks : (bound n : ℕ) (f : ℕ → List ℕ) → ((k : ℕ) → k < n → Below bound (f k)) → Below bound (blocks n f)
 below-blocks bound zero f h = tt
-below-blocks bound (suc n) f h = below-append bound (blocks n f) (f n) (below-blocks bound n f (λ k l. h k (omega arith))) (h n (omega arith))
+below-blocks bound (suc n) f h =
+    below-append bound (blocks n f) (f n) (below-blocks bound n f (λ k l. h k (omega arith))) (h n (omega arith))
 
 below-quad : (split : Split) (m a b d e : ℕ) → a < m → b < m → d < m → e < m → Below m (flatten (quad_of split a b d e))
 below-quad Capped m a b d e la lb ld le = (le, (lb, (la, (ld, (le, (la, tt))))))
@@ -37,7 +38,8 @@ below-quad Torus m a b d e la lb ld le = (la, (lb, (ld, (le, (ld, (lb, tt))))))
 below-quad Tube m a b d e la lb ld le = (la, (le, (lb, (la, (ld, (le, tt))))))
 below-quad Ribbon m a b d e la lb ld le = (la, (lb, (ld, (lb, (le, (ld, tt))))))
 
-pub below_row : (split : Split) (round : Chain) (n m low high : ℕ) → low + points_of round n ≤ m → high + points_of round n ≤ m → Below m (flatten (row_triangles split round n low high))
+pub below_row : (split : Split) (round : Chain) (n m low high : ℕ) → low + points_of round n ≤ m
+    → high + points_of round n ≤ m → Below m (flatten (row_triangles split round n low high))
 below_row split round n m low high l h =
     subst (λ (r : List ℕ). Below m r) (sym (flatten-blocks n (quad_at split round n low high)))
     (below-blocks m n (numbers (quad_at split round n low high)) (λ i less.

@@ -19,7 +19,8 @@ points-bounds Closed n = (omega arith, omega arith)
 
 -- steps to the next number are no more than all steps; and where there is a step, there is a point
 -- more than steps to the next number
-pub straight-bounds : (chain : Chain) (n : ℕ) → (straight_of chain n ≤ n) × (0 < n → straight_of chain n + 1 ≤ points_of chain n)
+pub straight-bounds : (chain : Chain) (n : ℕ)
+    → (straight_of chain n ≤ n) × (0 < n → straight_of chain n + 1 ≤ points_of chain n)
 straight-bounds Open n = (omega arith, λ h. omega arith)
 straight-bounds Closed n = (omega arith, λ h. omega arith)
 
@@ -28,7 +29,8 @@ straight-after Open n i h = refl
 straight-after Closed n i h = sym (mod-eq_of_lt (omega arith))
 
 -- a step that is left over is the last one, and leads to the first point
-pub last-after : (chain : Chain) (n : ℕ) → straight_of chain n < n → (straight_of chain n + 1 ≡ n) × (0 ≡ after_of chain n (straight_of chain n))
+pub last-after : (chain : Chain) (n : ℕ) → straight_of chain n < n
+    → (straight_of chain n + 1 ≡ n) × (0 ≡ after_of chain n (straight_of chain n))
 last-after Open n h = absurd (omega arith)
 last-after Closed n h =
     let last : n - 1 + 1 ≡ n = omega arith in

@@ -14,13 +14,15 @@ use Rattle.surface.specs.Raise.{raised, copy_of}
 -- ---- a part of the buffer
 
 -- number k of a part that lies before a write's place is read as it was
-pub read-before : (at from size k : ℕ) (new l : List ℕ) → k < size → from + k < at → get_or (overwrite at new l) (from + k) 0 ≡ get_or (part from size l) k 0
+pub read-before : (at from size k : ℕ) (new l : List ℕ) → k < size → from + k < at
+    → get_or (overwrite at new l) (from + k) 0 ≡ get_or (part from size l) k 0
 read-before at from size k new l h b =
     get_or-before at new l (from + k) 0 b ∙ sym (get_d_part from size l k 0 h)
 
 -- written where it stands, it changes nothing
 pub part-kept : (from size : ℕ) (l : List ℕ) → from + size ≤ length l → l ≡ overwrite from (part from size l) l
-part-kept from size l h = sym (put_same from size l) ∙ lent-part from size (part from size l) l (length_part from size l h) h
+part-kept from size l h =
+    sym (put_same from size l) ∙ lent-part from size (part from size l) l (length_part from size l h) h
 
 -- ---- copies of a list
 
@@ -32,7 +34,8 @@ copy-none rise (n ∷ l) = let e : 0 * rise + n ≡ n = omega arith in λ i. e i
 copy-later : (rise count k : ℕ) (l : List ℕ) → raised (count * rise) (copy_of rise l k) ≡ copy_of rise l (k + count)
 copy-later rise count k [] = refl
 copy-later rise count k (n ∷ l) =
-    let e : count * rise + (k * rise + n) ≡ (k + count) * rise + n = omega arith in λ i. e i ∷ copy-later rise count k l i
+    let e : count * rise + (k * rise + n) ≡ (k + count) * rise + n =
+    omega arith in λ i. e i ∷ copy-later rise count k l i
 
 module _ (at size rise : ℕ) (l t₀ : List ℕ) (sized : length l ≡ size) where
   length-copy : (k : ℕ) → length (copy_of rise l k) ≡ size
@@ -40,7 +43,8 @@ module _ (at size rise : ℕ) (l t₀ : List ℕ) (sized : length l ≡ size) wh
 
   -- where p + count copies are written, the last `count` stand right before the place where they
   -- end
-  last-copies : (p count : ℕ) {t : List ℕ} → t ≡ overwrite at (blocks (p + count) (copy_of rise l)) t₀ → at + (p + count) * size ≤ length t₀
+  last-copies : (p count : ℕ) {t : List ℕ} → t ≡ overwrite at (blocks (p + count) (copy_of rise l)) t₀
+      → at + (p + count) * size ≤ length t₀
       → part (at + p * size) (count * size) t ≡ blocks count (λ k. copy_of rise l (p + k))
   last-copies p count {t} written h =
       let f = copy_of rise l in
@@ -55,7 +59,8 @@ module _ (at size rise : ℕ) (l t₀ : List ℕ) (sized : length l ≡ size) wh
       (omega (arith, length-overwrite at (blocks p f) t₀))
 
   -- and raised by `count` rises, they are the next copies
-  pub next-copies : (p count : ℕ) {done place : ℕ} {t : List ℕ} → p + count ≡ done → t ≡ overwrite at (blocks done (copy_of rise l)) t₀
+  pub next-copies : (p count : ℕ) {done place : ℕ} {t : List ℕ} → p + count ≡ done
+      → t ≡ overwrite at (blocks done (copy_of rise l)) t₀
       → place ≡ at + done * size → place ≤ length t₀
       → raised (count * rise) (part (place - count * size) (count * size) t) ≡ blocks count (λ k. copy_of rise l (done + k))
   next-copies p count {done} {place} {t} all written is h =
@@ -70,7 +75,8 @@ module _ (at size rise : ℕ) (l t₀ : List ℕ) (sized : length l ≡ size) wh
       (λ k _. copy-later rise count (p + k) l ∙ ap (λ (i : ℕ). f i) (omega arith))
 
   -- written after the others, they and the others are one list
-  pub copies-after : (done count : ℕ) {place : ℕ} {t t' v : List ℕ} → t ≡ overwrite at (blocks done (copy_of rise l)) t₀ → place ≡ at + done * size
+  pub copies-after : (done count : ℕ) {place : ℕ} {t t' v : List ℕ}
+      → t ≡ overwrite at (blocks done (copy_of rise l)) t₀ → place ≡ at + done * size
       → t' ≡ overwrite place v t → v ≡ blocks count (λ k. copy_of rise l (done + k)) → t' ≡ overwrite at (blocks (done + count) (copy_of rise l)) t₀
   copies-after done count {t = t} before place written is =
       let f = copy_of rise l in

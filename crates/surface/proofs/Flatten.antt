@@ -18,7 +18,8 @@ numbers f k = flatten (f k)
 
 pub flatten-blocks : (n : ℕ) (f : ℕ → List Triangle) → flatten (blocks n f) ≡ blocks n (numbers f)
 flatten-blocks zero f = refl
-flatten-blocks (suc n) f = flatten-append (blocks n f) (f n) ∙ ap (λ (l : List ℕ). l ++ flatten (f n)) (flatten-blocks n f)
+flatten-blocks (suc n) f =
+    flatten-append (blocks n f) (f n) ∙ ap (λ (l : List ℕ). l ++ flatten (f n)) (flatten-blocks n f)
 
 -- what a loop leaves that writes the numbers of block after block, once its count is n
 pub blocks-written : (at : ℕ) (f : ℕ → List Triangle) (t₀ : List ℕ) {t : List ℕ} {i n : ℕ}

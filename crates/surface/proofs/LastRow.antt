@@ -14,7 +14,8 @@ use Rattle.surface.proofs.Chains.{straight-after, last-after}
 use Rattle.surface.proofs.Pieces.{row_at}
 
 module _ (split : Split) (round : Chain) (n : ℕ) where
-  straight-rows : (along : Chain) (m base k : ℕ) → k ≡ straight_of along m → grid_triangles split Open k round n base ≡ blocks k (row_at split round n along m base)
+  straight-rows : (along : Chain) (m base k : ℕ) → k ≡ straight_of along m
+      → grid_triangles split Open k round n base ≡ blocks k (row_at split round n along m base)
   straight-rows along m base k is =
       blocks-cong k (row_at split round n Open k base) (row_at split round n along m base) (λ g h.
       let next = straight-after along m g (omega arith) in

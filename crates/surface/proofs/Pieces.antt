@@ -47,7 +47,8 @@ module _ (split : Split) (round : Chain) (n : ℕ) where
       ∙ ap (λ (x : ℕ). flatten (quad_of split (low + i) (low + x) (high + i) (high + x))) next
 
   pub length-quad_at : (low high i : ℕ) → length (numbers (quad_at low high) i) ≡ 6
-  length-quad_at low high i = length-quad split (low + i) (low + after_of round n i) (high + i) (high + after_of round n i)
+  length-quad_at low high i =
+      length-quad split (low + i) (low + after_of round n i) (high + i) (high + after_of round n i)
 
   pub length-row : (low high : ℕ) → length (flatten (row_triangles split round n low high)) ≡ n * 6
   length-row low high =
@@ -56,12 +57,15 @@ module _ (split : Split) (round : Chain) (n : ℕ) where
   -- ---- one row of a grid
 
   abbrev pub row_at : Chain → ℕ → ℕ → ℕ → List Triangle
-  row_at along m base g = row_triangles split round n (base + g * points_of round n) (base + after_of along m g * points_of round n)
+  row_at along m base g =
+      row_triangles split round n (base + g * points_of round n) (base + after_of along m g * points_of round n)
 
   pub length-row_at : (along : Chain) (m base g : ℕ) → length (numbers (row_at along m base) g) ≡ n * 6
-  length-row_at along m base g = length-row (base + g * points_of round n) (base + after_of along m g * points_of round n)
+  length-row_at along m base g =
+      length-row (base + g * points_of round n) (base + after_of along m g * points_of round n)
 
-  pub length-grid : (along : Chain) (m base : ℕ) → length (flatten (grid_triangles split along m round n base)) ≡ m * (n * 6)
+  pub length-grid : (along : Chain) (m base : ℕ)
+      → length (flatten (grid_triangles split along m round n base)) ≡ m * (n * 6)
   length-grid along m base =
       ap length (flatten-blocks m (row_at along m base)) ∙ length-blocks (n * 6) m (numbers (row_at along m base)) (λ g h. length-row_at along m base g)
 
@@ -71,7 +75,8 @@ length-cap-triangle : (end : End) (pole here next : ℕ) → length (flatten (ca
 length-cap-triangle Bottom pole here next = refl
 length-cap-triangle Top pole here next = refl
 
-cap-numbers : (end : End) (pole here next : ℕ) → row_of (flatten (cap_triangle end pole here next ∷ [])) ≡ flatten (cap_triangle end pole here next ∷ [])
+cap-numbers : (end : End) (pole here next : ℕ)
+    → row_of (flatten (cap_triangle end pole here next ∷ [])) ≡ flatten (cap_triangle end pole here next ∷ [])
 cap-numbers Bottom pole here next = refl
 cap-numbers Top pole here next = refl
 

@@ -22,14 +22,17 @@ use Rattle.surface.proofs.Below.{below_row}
 use Rattle.surface.proofs.Flatten.{numbers, flatten-blocks}
 use Rattle.surface.proofs.Pieces.{quad_at, row_at, length-row, length-grid}
 
-raised-quad : (split : Split) (r a b d e : ℕ) → raised r (flatten (quad_of split a b d e)) ≡ flatten (quad_of split (r + a) (r + b) (r + d) (r + e))
+raised-quad : (split : Split) (r a b d e : ℕ)
+    → raised r (flatten (quad_of split a b d e)) ≡ flatten (quad_of split (r + a) (r + b) (r + d) (r + e))
 raised-quad Capped r a b d e = refl
 raised-quad Torus r a b d e = refl
 raised-quad Tube r a b d e = refl
 raised-quad Ribbon r a b d e = refl
 
 module _ (split : Split) (round : Chain) (n : ℕ) where
-  raised-row : (r low high : ℕ) → raised r (flatten (row_triangles split round n low high)) ≡ flatten (row_triangles split round n (r + low) (r + high))
+  raised-row : (r low high : ℕ)
+      → raised r (flatten (row_triangles split round n low high))
+      ≡ flatten (row_triangles split round n (r + low) (r + high))
   raised-row r low high =
       ap (λ (l : List ℕ). raised r l) (flatten-blocks n (quad_at split round n low high))
       ∙ map-blocks (λ k. r + k) n (numbers (quad_at split round n low high))
@@ -45,21 +48,24 @@ module _ (split : Split) (round : Chain) (n : ℕ) where
   abbrev pub first_row : ℕ → List ℕ
   first_row base = flatten (row_triangles split round n base (base + points_of round n))
 
-  copied-row : (m base g : ℕ) → copy_of (points_of round n) (first_row base) g ≡ numbers (row_at split round n Open m base) g
+  copied-row : (m base g : ℕ)
+      → copy_of (points_of round n) (first_row base) g ≡ numbers (row_at split round n Open m base) g
   copied-row m base g =
       let w = points_of round n in
       let low : g * w + base ≡ base + g * w = omega arith in
       let high : g * w + (base + w) ≡ base + (g + 1) * w = omega arith in
       raised-row (g * w) base (base + w) ∙ (λ k. flatten (row_triangles split round n (low k) (high k)))
 
-  pub below_copy : (m base g bound : ℕ) → g < m → base + (m + 1) * points_of round n ≤ bound → Below bound (copy_of (points_of round n) (first_row base) g)
+  pub below_copy : (m base g bound : ℕ) → g < m → base + (m + 1) * points_of round n ≤ bound
+      → Below bound (copy_of (points_of round n) (first_row base) g)
   below_copy m base g bound less h =
       let w = points_of round n in
       let within = mul-le-mul_right w less in
       subst (λ (r : List ℕ). Below bound r) (sym (copied-row m base g)) (below_row split round n bound (base + g * w) (base + (g + 1) * w) (omega arith) (omega arith))
 
   -- the first row, read back where it was written
-  pub first_read : (at base : ℕ) (t₀ : List ℕ) {t : List ℕ} → t ≡ overwrite at (first_row base) t₀ → at + n * 6 ≤ length t₀ → part at (n * 6) t ≡ first_row base
+  pub first_read : (at base : ℕ) (t₀ : List ℕ) {t : List ℕ} → t ≡ overwrite at (first_row base) t₀
+      → at + n * 6 ≤ length t₀ → part at (n * 6) t ≡ first_row base
   first_read at base t₀ written h =
       ap (λ (r : List ℕ). part at (n * 6) r) written
       ∙ part-written at (n * 6) (first_row base) t₀ (length-row split round n base (base + points_of round n)) h

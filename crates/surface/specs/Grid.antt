@@ -36,8 +36,8 @@ grid_triangles split along m round n base =
     let w = points_of round n in
     blocks m (λ g. row_triangles split round n (base + g * w) (base + after_of along m g * w))
 
--- What a row's writer asks: its vertices are numbered below `most_in_all`, and its place lies within
--- the buffer.
+-- What a row's writer asks: its vertices are numbered below `most_in_all`, and its place lies
+-- within the buffer.
 pub record RowFits (round : Chain) (n low high at room : ℕ) : Type 0 where
   pub low-numbers : low + points_of round n ≤ most_in_all
   pub high-numbers : high + points_of round n ≤ most_in_all

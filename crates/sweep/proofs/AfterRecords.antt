@@ -1,6 +1,7 @@
--- Records that were read and added, one after the other: of the known bytes of the input, where there are any, they are
--- the front. Assumes nothing.
-use Rattle.std.proofs.Common.{◌≡◌, refl, sym, ap, ◌∙◌, List, [], ◌++◌, ℕ, ◌+◌, ◌*◌, ◌≤◌, ◌<◌, length, take, length-take-le, length-append, arith, IfSome}
+-- Records that were read and added, one after the other: of the known bytes of the input, where
+-- there are any, they are the front. Assumes nothing.
+use Rattle.std.proofs.Common.{◌≡◌, refl, sym, ap, ◌∙◌, List, [], ◌++◌, ℕ, ◌+◌, ◌*◌, ◌≤◌, ◌<◌, length, take}
+use Rattle.std.proofs.Common.{length-take-le, length-append, arith, IfSome}
 use Rattle.std.specs.declared.option.Option.{Option}
 use Rattle.std.specs.declared.option.Option.TheVariants.{None, Some}
 use Rattle.std.specs.Io.KnownBytes.{Consumes}
@@ -24,7 +25,8 @@ read_whole end words held is = length-take-le end words held ∙ is
 pub read_some : (end : ℕ) (words : List ℕ) → 0 < end → end ≤ length words → 0 < length (take end words)
 read_some end words some held = omega (arith, length-take-le end words held)
 
--- `count` whole records were read, which took the input's known bytes from `old` to `new`, and were added
+-- `count` whole records were read, which took the input's known bytes from `old` to `new`, and
+-- were added
 pub record SoFar (old new : Option (List ℕ)) (count : ℕ) (before after : Buffers) : Type 0 where
   pub records : Records
   pub read : List ℕ
@@ -67,10 +69,12 @@ one-read words bytes {before = before} so_far some is taken sized read added =
 
 pub after_records : {old new : Option (List ℕ)} {count : ℕ} {before after : Buffers} → SoFar old new count before after
     → AfterRecords count before after
-after_records so_far = record { records = so_far.records; counted = so_far.counted; whole = so_far.whole; left = so_far.left }
+after_records so_far =
+    record { records = so_far.records; counted = so_far.counted; whole = so_far.whole; left = so_far.left }
 
 -- the reading stopped where it had come
-pub stopped_here : (old new : Option (List ℕ)) (stop : Option Stop) (count : ℕ) (before after : Buffers) → SoFar old new count before after
+pub stopped_here : (old new : Option (List ℕ)) (stop : Option Stop) (count : ℕ) (before after : Buffers)
+    → SoFar old new count before after
     → IfSome new (λ rest. IfSome stop (λ why. StopsBefore why rest)) → IfSome old (λ bytes. AddedFrom bytes stop count before after)
 stopped_here None new stop count before after so_far h = tt
 stopped_here (Some bytes) None stop count before after so_far h = absurd so_far.taken

@@ -1,5 +1,8 @@
--- Records that other words follow: the additions of all are theirs, and then those of what follows. Assumes nothing.
-use Rattle.std.proofs.Common.{◌≡◌, refl, sym, ap, ◌∙◌, subst, List, [], ◌++◌, append_assoc, append-nil, map, ℕ, ◌+◌, ◌*◌, ◌≤◌, ◌<◌, not, eqb, length, get_or, take, drop, length-append, length-drop, drop_at, arith, Bool, true, false, Float, IfSome}
+-- Records that other words follow: the additions of all are theirs, and then those of what
+-- follows. Assumes nothing.
+use Rattle.std.proofs.Common.{◌≡◌, refl, sym, ap, ◌∙◌, subst, List, [], ◌++◌, append_assoc, append-nil, map, ℕ}
+use Rattle.std.proofs.Common.{◌+◌, ◌*◌, ◌≤◌, ◌<◌, not, eqb, length, get_or, take, drop, length-append}
+use Rattle.std.proofs.Common.{length-drop, drop_at, arith, Bool, true, false, Float, IfSome}
 use Rattle.std.proofs.Math.ListN.{get_or-append}
 use Rattle.std.specs.Float.{binary32}
 use Rattle.std.specs.Float.Ieee.{of_bits}
@@ -10,8 +13,11 @@ use Rattle.set_table.specs.Buffers.{Buffers}
 use Rattle.descriptions.specs.KindNumbers.{described_of}
 use Rattle.descriptions.specs.declared.kind.Described.{Described}
 use Rattle.ledger.specs.Calls.{Call, Called, additions}
-use Rattle.records.specs.Records.{head_words, most_vertices, vertices_named, head_names, begins_with_record, record_words, described_in, curve_in, addition_of, first_addition, additions_in}
-use Rattle.records.proofs.Additions.{Whole, whole, whole-begins, record-length, first-addition, is-record, no_record, additions-next, additions-none}
+use Rattle.records.specs.Records.{head_words, most_vertices, vertices_named, head_names, begins_with_record}
+use Rattle.records.specs.Records.{record_words, described_in, curve_in, addition_of, first_addition}
+use Rattle.records.specs.Records.{additions_in}
+use Rattle.records.proofs.Additions.{Whole, whole, whole-begins, record-length, first-addition, is-record}
+use Rattle.records.proofs.Additions.{no_record, additions-next, additions-none}
 use Rattle.streams.specs.declared.record.Stop.{Stop}
 use Rattle.streams.specs.declared.record.Stop.TheVariants.{End, Short, TooLong, Failed}
 use Rattle.streams.specs.Record.{StopsBefore, NamesTooMany}
@@ -47,7 +53,9 @@ module _ (words more : List ℕ) (some : 0 < length words) (is : length words �
       })
 
   same-length : record_words (words ++ more) ≡ length words
-  same-length = record-length (words ++ more) begins-all ∙ ap (λ (v : ℕ). head_words + 3 * v) (same-word 6 (omega arith)) ∙ sym long
+  same-length =
+      record-length (words ++ more) begins-all ∙ ap (λ (v : ℕ). head_words + 3 * v) (same-word 6 (omega arith))
+      ∙ sym long
 
   same_description : described_in (words ++ more) ≡ described_in words
   same_description =
@@ -79,7 +87,8 @@ module _ (words more : List ℕ) (some : 0 < length words) (is : length words �
       ap (λ (n : ℕ). drop n (words ++ more)) same-length ∙ drop_at words more (length words) refl in
       additions-next (words ++ more) begins-all ∙ (λ j. same_addition j ++ additions_in (behind j))
 
-pub records-then-others : (R : Records) (more : List ℕ) → EachWhole R → additions_in (words_of R ++ more) ≡ additions_from R ++ additions_in more
+pub records-then-others : (R : Records) (more : List ℕ) → EachWhole R
+    → additions_in (words_of R ++ more) ≡ additions_from R ++ additions_in more
 records-then-others none more w = refl
 records-then-others (then R words) more w =
     ap additions_in (append_assoc (words_of R) words more)
@@ -99,14 +108,17 @@ unfolding begins_with_record head_names
 nothing-none = refl
 
 -- where the reading stops no record follows
-nothing_behind : (why : Stop) (rest : List ℕ) → StopsBefore why rest → UnlessFailed why (additions_in (words_in rest) ≡ [])
-nothing_behind End rest told = additions-none (words_in rest) (ap (λ (l : List ℕ). begins_with_record (words_in l)) told ∙ nothing-none)
+nothing_behind : (why : Stop) (rest : List ℕ) → StopsBefore why rest
+    → UnlessFailed why (additions_in (words_in rest) ≡ [])
+nothing_behind End rest told =
+    additions-none (words_in rest) (ap (λ (l : List ℕ). begins_with_record (words_in l)) told ∙ nothing-none)
 nothing_behind Short rest told = additions-none (words_in rest) (no_record (words_in rest) told.1.0)
 nothing_behind TooLong rest told = additions-none (words_in rest) (too_many-none (words_in rest) told)
 nothing_behind (Failed error) rest told = tt
 
 -- all that the bytes hold
-all_of : (bytes : List ℕ) (why : Stop) (count : ℕ) (before after : Buffers) → (a : AddedFrom bytes (Some why) count before after)
+all_of : (bytes : List ℕ) (why : Stop) (count : ℕ) (before after : Buffers)
+    → (a : AddedFrom bytes (Some why) count before after)
     → additions_in (words_in a.rest) ≡ [] → AddedAll bytes before after
 all_of bytes why count before after a nothing =
     let split : words_in bytes ≡ words_of a.records ++ words_in a.rest =
@@ -118,11 +130,14 @@ all_of bytes why count before after a nothing =
     ∙ append-nil (additions_from a.records) in
     a.left ∙ sym (ap (λ (l : List Call). (additions l before).left) calls)
 
-pub added-all : (bytes : List ℕ) (why : Stop) (count : ℕ) (before after : Buffers) → AddedFrom bytes (Some why) count before after
+pub added-all : (bytes : List ℕ) (why : Stop) (count : ℕ) (before after : Buffers)
+    → AddedFrom bytes (Some why) count before after
     → UnlessFailed why (AddedAll bytes before after)
 added-all bytes End count before after a = all_of bytes End count before after a (nothing_behind End a.rest a.stopped)
-added-all bytes Short count before after a = all_of bytes Short count before after a (nothing_behind Short a.rest a.stopped)
-added-all bytes TooLong count before after a = all_of bytes TooLong count before after a (nothing_behind TooLong a.rest a.stopped)
+added-all bytes Short count before after a =
+    all_of bytes Short count before after a (nothing_behind Short a.rest a.stopped)
+added-all bytes TooLong count before after a =
+    all_of bytes TooLong count before after a (nothing_behind TooLong a.rest a.stopped)
 added-all bytes (Failed error) count before after a = tt
 
 pub all-read : (known : Option (List ℕ)) (stop : Option Stop) (count : ℕ) (before after : Buffers)

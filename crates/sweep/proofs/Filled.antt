@@ -37,8 +37,10 @@ not-passed : (p : Bool) {k : ℕ} (w : ℕ) → refused k ≡ cond p (accepted w
 not-passed true w h = let z : ◌≡◌ {A = ℕ} 0 1 = cc in absurd (omega arith)
 not-passed false w h = refl
 
-none_here : (there : Bool) (file : List ℕ) (i : ℕ) {k : ℕ} → refused k ≡ answer_at there file i → length (words_of there file) ≤ i
-none_here true file i h = omega (arith, leb-false (i + 1) (length file) (not-passed (leb (i + 1) (length file)) (get_or file i 0) h))
+none_here : (there : Bool) (file : List ℕ) (i : ℕ) {k : ℕ} → refused k ≡ answer_at there file i
+    → length (words_of there file) ≤ i
+none_here true file i h =
+    omega (arith, leb-false (i + 1) (length file) (not-passed (leb (i + 1) (length file)) (get_or file i 0) h))
 none_here false file i h = omega arith
 
 -- what an answer tells of word i
@@ -46,7 +48,8 @@ module _ (s : Buffers) (i : ℕ) where
   abbrev there : Bool
   there = undamaged s.table (length s.vertices) (length s.triangles)
 
-  pub word-told : {w : ℕ} → accepted w ≡ file_word_of s i → (i < length (file_words s)) × (w ≡ get_or (file_words s) i 0)
+  pub word-told : {w : ℕ} → accepted w ≡ file_word_of s i
+      → (i < length (file_words s)) × (w ≡ get_or (file_words s) i 0)
   unfolding file_words
   word-told h = word-here there (file_in (totals_in s.table) s) i h
 
@@ -67,12 +70,14 @@ module _ (file words₀ : List ℕ) where
 
   module _ {i : ℕ} {words : List ℕ} (f : Filled file words₀ i words) where
     -- what is written after them
-    more-written : (more : List ℕ) {words' : List ℕ} → words' ≡ overwrite i more words → words' ≡ overwrite 0 (take i file ++ more) words₀
+    more-written : (more : List ℕ) {words' : List ℕ} → words' ≡ overwrite i more words
+        → words' ≡ overwrite 0 (take i file ++ more) words₀
     more-written more written =
         written_behind 0 (take i file) more words₀ f.holds (length-take-le i file f.within)
         (written ∙ ap (λ (k : ℕ). overwrite k more words) (sym (zero-add i)))
 
-    pub one-filled : {w : ℕ} → i < length words → i < length file → w ≡ get_or file i 0 → Filled file words₀ (i + 1) (set words i w)
+    pub one-filled : {w : ℕ} → i < length words → i < length file → w ≡ get_or file i 0
+        → Filled file words₀ (i + 1) (set words i w)
     one-filled {w} fits more is =
         let next : take (i + 1) file ≡ take i file ++ (w ∷ []) = rw (add-one i, is) (take-suc file i 0 more) in record {
           within = omega arith;

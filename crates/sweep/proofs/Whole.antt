@@ -61,7 +61,8 @@ most-words s sized = by (undamaged s.table (length s.vertices) (length s.triangl
   file : List ℕ
   file = file_in (totals_in s.table) s
 
-  by : (there : Bool) → undamaged s.table (length s.vertices) (length s.triangles) ≡ there → length (file_words s) ≤ 24964
+  by : (there : Bool) → undamaged s.table (length s.vertices) (length s.triangles) ≡ there
+      → length (file_words s) ≤ 24964
   by true e = omega (arith, file-bound s sized e, ap (λ (b : Bool). length (cond b file [])) e)
   by false e = omega (arith, ap (λ (b : Bool). length (cond b file [])) e)
 

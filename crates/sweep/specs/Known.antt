@@ -1,5 +1,6 @@
--- What is made of an input whose bytes are known, as those of memory are: the additions of the records that it begins
--- with, in their order, and of nothing else; where no read failed, of all of them. Definitions only.
+-- What is made of an input whose bytes are known, as those of memory are: the additions of the
+-- records that it begins with, in their order, and of nothing else; where no read failed, of all
+-- of them. Definitions only.
 use Rattle.std.specs.Prelude.{◌≡◌, List, [], ◌++◌, ℕ, ◌*◌, length, IfSome}
 use Rattle.std.specs.declared.option.Option.{Option}
 use Rattle.little_endian.specs.Words.{words_in}
@@ -16,8 +17,8 @@ abbrev pub words_of : Records → List ℕ
 words_of none = []
 words_of (then R words) = words_of R ++ words
 
--- `count` whole records, which these bytes begin with, were added between `before` and `after`; the reading stopped
--- before the rest of the bytes
+-- `count` whole records, which these bytes begin with, were added between `before` and `after`;
+-- the reading stopped before the rest of the bytes
 pub record AddedFrom (bytes : List ℕ) (stop : Option Stop) (count : ℕ) (before after : Buffers) : Type 0 where
   pub records : Records
   pub read : List ℕ

@@ -26,7 +26,8 @@ impl Display for Words {
     }
 }
 
-// Writes a line to `errors`: which record is at fault, by its number, what is wrong with it, and what is kept.
+// Writes a line to `errors`: which record is at fault, by its number, what is wrong with it, and
+// what is kept.
 fn say<E: Write>(errors: &mut E, number: u64, fault: &str) -> io::Result<()>
     ensures { OnOk result (Appends (E.contents errors.old) (E.contents errors.new)
         (fault_line number fault.now)) }

@@ -9,7 +9,8 @@ ghost use Rattle.laws.specs.Overwrite.{placed};
 ghost use Rattle.answers.specs.Answers.{number_in};
 ghost use Rattle.descriptions.specs.Answers.{verdict_answer, counted_answer};
 ghost use Rattle.descriptions.specs.KindNumbers.{described_of};
-ghost use Rattle.togbefulo.specs.Face.{check_number, counts_number, counts_in, counts_after, is_drawn, drawn_vertices};
+ghost use Rattle.togbefulo.specs.Face.{check_number, counts_number, counts_in, counts_after, is_drawn};
+ghost use Rattle.togbefulo.specs.Face.{drawn_vertices};
 
 use descriptions::{Counted, Described, Verdict, of_kind};
 

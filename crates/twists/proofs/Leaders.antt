@@ -80,7 +80,8 @@ up-to-this f n most before this k h =
     ⊎_elim (λ same. ap (λ (j : ℕ). le (f j) most) same ∙ this) (before k) (eq-or-lt_of_le (le_of_suc-le-suc h))
 
 module _ (f : ℕ → Float) (many : ℕ) (number : (k : ℕ) → k < many → finite (f k) ≡ true) where
-  leading-next : (n : ℕ) (b : Leader) → n < many → Leading f many n b → Leading f many (suc n) (led_once (0 + n) (f n) b)
+  leading-next : (n : ℕ) (b : Leader) → n < many → Leading f many n b
+      → Leading f many (suc n) (led_once (0 + n) (f n) b)
   leading-next n b h now = go (lt b.score (f n)) refl
     where
       number-b : finite b.score ≡ true

@@ -16,7 +16,8 @@ across_x u = record { x = of_bits binary32 0; y = neg u.z; z = u.y }
 -- "(uz, +0, −ux) if the dot of this triple with itself is at least 2^−4, else (+0, −uz, uy)".
 -- 3D800000 is 2^−4.
 unfoldable pub perpendicular_to : Point → Point
-perpendicular_to u = cond (le (of_bits binary32 0x3D80_0000) (dot_of (across_y u) (across_y u))) (across_y u) (across_x u)
+perpendicular_to u =
+    cond (le (of_bits binary32 0x3D80_0000) (dot_of (across_y u) (across_y u))) (across_y u) (across_x u)
 
 -- "First frame of direction v: u = v normalised; .. then normalised.": of u, and of v
 unfoldable pub frame_beside : Point → Frame

@@ -6,7 +6,8 @@ use Rattle.float32.proofs.NanPatterns.{number-bits}
 use Rattle.float32.proofs.near.guess.Goals as goal
 
 pub float_from_bits-y : goal.float_from_bits-y
-float_from_bits-y c = number-bits binary64 (6910395671077978112 - (c.args.t * 536870912 + 4607182418800017408) / 2) (omega arith)
+float_from_bits-y c =
+    number-bits binary64 (6910395671077978112 - (c.args.t * 536870912 + 4607182418800017408) / 2) (omega arith)
 
 pub float_from_bits-s : goal.float_from_bits-s
 float_from_bits-s c = number-bits binary64 (c.args.t * 536870912 + 4607182418800017408) (omega arith)

@@ -17,4 +17,6 @@ unfolding root_of of_bits div
 returns-then-b-eq2139095040 c = rw c.if-b-eq2139095040.true
 
 pub returns : goal.returns
-returns c = zero-over-zero ∙ sym (no-root c.args.b c.requires c.if-b-eq2147483648.false c.if-b-eq2139095040.false (search rules))
+returns c =
+    zero-over-zero
+    ∙ sym (no-root c.args.b c.requires c.if-b-eq2147483648.false c.if-b-eq2139095040.false (search rules))

@@ -18,7 +18,8 @@ unfolding root_of of_bits
 returns-then-b-eq0 c = rw c.if-b-eq0.true
 
 -- shifted up by so many places it has 24 digits
-at_place : (c : Else-b-eq0) → (8 ≤ count_leading_zeros 32 c.args.b) × Shifted c.args.b (count_leading_zeros 32 c.args.b - 8)
+at_place : (c : Else-b-eq0)
+    → (8 ≤ count_leading_zeros 32 c.args.b) × Shifted c.args.b (count_leading_zeros 32 c.args.b - 8)
 at_place c = shifted c.args.b (pos_of_ne-zero c.if-b-eq0.false) c.requires
 
 pub overflow_sub-z : goal.overflow_sub-z

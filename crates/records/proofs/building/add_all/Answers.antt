@@ -17,7 +17,8 @@ use Rattle.records.proofs.Additions.{whole, record-length, is-record, no_record}
 use Rattle.records.proofs.Progress.{Progress, begun, next, all_left, all-answered}
 use Rattle.records.proofs.building.add_all.Invariants.{records, start}
 use Rattle.records.proofs.building.add_all.Goals as goal
-use Rattle.records.proofs.building.add_all.Goals.{After-add_first-reply, After-slice_known-in-loop-words-4-1, At-loop-words, In-loop-words, Start}
+use Rattle.records.proofs.building.add_all.Goals.{After-add_first-reply, After-slice_known-in-loop-words-4-1}
+use Rattle.records.proofs.building.add_all.Goals.{At-loop-words, In-loop-words, Start}
 
 abbrev lent : Start → Buffers
 lent s = buffers s.args.table.now s.args.vertices.now s.args.triangles.now
@@ -47,7 +48,11 @@ abbrev left : After-add_first-reply → Buffers
 left f = buffers f.add-first.new.1.0 f.add-first.new.1.1.0 f.add-first.new.1.1.1.0
 
 adds : (f : After-add_first-reply) → let l = (turn f).before in
-    record { answers = replies_in f.add-first.result; left = left f } ≡ additions (first_addition (remaining l)) (held l)
+    record {
+      answers =
+          replies_in f.add-first.result;
+      left = left f;
+    } ≡ additions (first_addition (remaining l)) (held l)
 adds f =
     let l = (turn f).before in
     f.add-first.ensures ∙ ap (λ (words : List ℕ). additions (first_addition words) (held l)) (part_to_end (records l) l.loop.at)
@@ -79,7 +84,8 @@ pub slice_bounds-record_words-count : goal.slice_bounds-record_words-count
 slice_bounds-record_words-count c = omega (arith, further (turn (added c)))
 
 pub loop-words-smaller : goal.loop-words-smaller
-loop-words-smaller c = omega (arith, further (turn (added (goal.at.loop-words-smaller c).After-slice_known-in-loop-words-4-1)))
+loop-words-smaller c =
+    omega (arith, further (turn (added (goal.at.loop-words-smaller c).After-slice_known-in-loop-words-4-1)))
 
 pub loop-words-preserved : goal.loop-words-preserved
 loop-words-preserved c =

@@ -23,7 +23,8 @@ curve s = map (of_bits binary32) s.args.coordinates.now
 abbrev held : Start → Buffers
 held s = buffers s.args.table.now s.args.vertices.now s.args.triangles.now
 
-filled : (f : After-fill_floats) → let s = start f in take (length s.args.coordinates.now) f.fill-floats.new.1.0 ≡ curve s
+filled : (f : After-fill_floats)
+    → let s = start f in take (length s.args.coordinates.now) f.fill-floats.new.1.0 ≡ curve s
 filled f =
     let s = start f in
     let count = length s.args.coordinates.now in

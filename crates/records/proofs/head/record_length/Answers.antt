@@ -14,7 +14,8 @@ overflow_cast-vertices c = omega (arith, c.shared_slice_known-1.given 6)
 
 pub returns-then-vertices-gt-MOST_VERTICES : goal.returns-then-vertices-gt-MOST_VERTICES
 unfolding head_names
-returns-then-vertices-gt-MOST_VERTICES c = rw (le-leb _ _ c.if-head-lt-HEAD_WORDS.false, lt-leb _ _ c.if-vertices-gt-MOST_VERTICES.true)
+returns-then-vertices-gt-MOST_VERTICES c =
+    rw (le-leb _ _ c.if-head-lt-HEAD_WORDS.false, lt-leb _ _ c.if-vertices-gt-MOST_VERTICES.true)
 
 pub returns : goal.returns
 unfolding head_names

@@ -11,8 +11,10 @@ returns-then-table-eq0 c = rw (lt-leb 1 (length c.args.table.now) (omega arith))
 
 pub returns-then-bodies-le-MOST_BODIES : goal.returns-then-bodies-le-MOST_BODIES
 unfolding head_sound
-returns-then-bodies-le-MOST_BODIES c = rw (le-leb 1 (length c.args.table.now) (omega arith), le-leb _ _ c.if-bodies-le-MOST_BODIES.true)
+returns-then-bodies-le-MOST_BODIES c =
+    rw (le-leb 1 (length c.args.table.now) (omega arith), le-leb _ _ c.if-bodies-le-MOST_BODIES.true)
 
 pub returns-else-bodies-le-MOST_BODIES : goal.returns-else-bodies-le-MOST_BODIES
 unfolding head_sound
-returns-else-bodies-le-MOST_BODIES c = rw (le-leb 1 (length c.args.table.now) (omega arith), lt-leb _ _ c.if-bodies-le-MOST_BODIES.false)
+returns-else-bodies-le-MOST_BODIES c =
+    rw (le-leb 1 (length c.args.table.now) (omega arith), lt-leb _ _ c.if-bodies-le-MOST_BODIES.false)

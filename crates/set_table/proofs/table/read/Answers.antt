@@ -8,7 +8,8 @@ use lib.ListN.{length}
 use Rattle.surface.specs.Limits.{fits}
 use Rattle.set_table.specs.Entries.{table_words}
 use Rattle.set_table.specs.Table.{bodies_in, head_sound, reading_of}
-use Rattle.set_table.proofs.Tables.{head-bounds, answered, Summed, summed-next, head-damaged, entry-damaged, summed-read, both_fit}
+use Rattle.set_table.proofs.Tables.{head-bounds, answered, Summed, summed-next, head-damaged, entry-damaged}
+use Rattle.set_table.proofs.Tables.{summed-read, both_fit}
 use Rattle.set_table.proofs.table.read.Goals as goal
 use Rattle.set_table.proofs.table.read.Goals.{else-fits-via-then-fits+else-fits-2, else-fits-via-else-fits}
 

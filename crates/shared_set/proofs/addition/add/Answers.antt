@@ -34,7 +34,8 @@ module _ (a : Addition) (s : Buffers) where
   damaged h = untouched says (body_alone a) s refl (refused-by first others says tt h)
 
   -- where the table is sound, 1 leaves the answer to the others
-  behind : {t : Totals} → accepted t ≡ reading_of s.table (length s.vertices) (length s.triangles) → appended a t s ≡ added a s
+  behind : {t : Totals} → accepted t ≡ reading_of s.table (length s.vertices) (length s.triangles)
+      → appended a t s ≡ added a s
   unfolding added
   behind h =
       let told = accepted-by first says h in

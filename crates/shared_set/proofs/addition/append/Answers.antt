@@ -38,7 +38,8 @@ module _ (t : Totals) (d : Description) (c : List Float) (s : Buffers) where
 
   module _ {body : Topology} (passed : accepted body ≡ first_of (segment_tests d c) (topology_of d (vertices_in c))) where
     -- 2, 3 and 4 answer the same of the body that the check handed over and of its description
-    same_room : answer_of (room_tests (lengths_of s) t (vertex_count body) (triangle_count body)) ≡ answer_of (fit_tests (lengths_of s) t d c)
+    same_room : answer_of (room_tests (lengths_of s) t (vertex_count body) (triangle_count body))
+        ≡ answer_of (fit_tests (lengths_of s) t d c)
     same_room = ap (λ (b : Topology). answer_of (room_tests (lengths_of s) t (vertex_count b) (triangle_count b))) (checked asked passed).same
 
     -- they refuse, or 13 does

@@ -1,4 +1,6 @@
-use Rattle.std.proofs.Common.{rules, ◌≡◌, ℕ, ◌+◌, ◌-◌, ◌*◌, ◌/◌, ◌≤◌, Bool, List, drop, length-take, length-drop, ◌++◌, ◌∙◌, refl, sym, ap, arith, length, take, take_all, length-take-le, length-append, IfSome}
+use Rattle.std.proofs.Common.{rules, ◌≡◌, ℕ, ◌+◌, ◌-◌, ◌*◌, ◌/◌, ◌≤◌, Bool, List, drop, length-take}
+use Rattle.std.proofs.Common.{length-drop, ◌++◌, ◌∙◌, refl, sym, ap, arith, length, take, take_all}
+use Rattle.std.proofs.Common.{length-take-le, length-append, IfSome}
 use Rattle.std.proofs.KnownBytes.{Consumes-whole}
 use lib.Dec.{leb}
 use borrow.Rule.Slice.PartMut.{put_mid}
@@ -46,10 +48,12 @@ returns-in-Full-clause-alone g c =
     let old = c.args.bytes.now in
     let more = c.read_full.new.buf in
     let a = c.requires in
-    let sized : length more ≡ 4 * c.args.count - 28 = omega (arith, length-take (4 * c.args.count - 28) (drop 28 old), length-drop 28 old) in
+    let sized : length more ≡ 4 * c.args.count - 28 =
+    omega (arith, length-take (4 * c.args.count - 28) (drop 28 old), length-drop 28 old) in
     let words = front c.args.count old more c.args.words.now a.byte_room a.word_room a.has_head a.fits sized
     c.read_words.ensures.fits c.read_words.ensures.written in
-    let whole = is_whole c.args.count (take 28 old) more (length-take-le 28 old (omega arith)) a.named a.has_head sized in
+    let whole =
+    is_whole c.args.count (take 28 old) more (length-take-le 28 old (omega arith)) a.named a.has_head sized in
     (omega arith, search rules, whole ∙ sym (ap record_words words))
 
 pub returns-in-Full-clause-bytes : goal.returns-in-Full-clause-bytes
@@ -57,7 +61,8 @@ returns-in-Full-clause-bytes g c =
     let old = c.args.bytes.now in
     let more = c.read_full.new.buf in
     let a = c.requires in
-    let sized : length more ≡ 4 * c.args.count - 28 = omega (arith, length-take (4 * c.args.count - 28) (drop 28 old), length-drop 28 old) in
+    let sized : length more ≡ 4 * c.args.count - 28 =
+    omega (arith, length-take (4 * c.args.count - 28) (drop 28 old), length-drop 28 old) in
     let words = front c.args.count old more c.args.words.now a.byte_room a.word_room a.has_head a.fits sized
     c.read_words.ensures.fits c.read_words.ensures.written in (
       take 28 old ++ more,

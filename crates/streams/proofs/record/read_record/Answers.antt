@@ -1,4 +1,6 @@
-use Rattle.std.proofs.Common.{rules, ◌≡◌, ℕ, ◌*◌, ◌/◌, ◌≤◌, Bool, List, subst, take_all, ◌++◌, ◌∙◌, refl, sym, ap, arith, length, take, drop, length-take-le, length-append, length-drop, length-take}
+use Rattle.std.proofs.Common.{rules, ◌≡◌, ℕ, ◌*◌, ◌/◌, ◌≤◌, Bool, List, subst, take_all, ◌++◌, ◌∙◌, refl, sym}
+use Rattle.std.proofs.Common.{ap, arith, length, take, drop, length-take-le, length-append, length-drop}
+use Rattle.std.proofs.Common.{length-take}
 use Rattle.std.proofs.KnownBytes.{Consumes-whole}
 use Rattle.std.specs.Io.KnownBytes.{Consumes}
 use lib.Dec.{leb}
@@ -40,7 +42,8 @@ returns-else-done-eq0-clause-bytes g c =
     let few = take c.in-Ended.done c.read_full.new.buf in
     let told = c.in-Ended.ensures in
     let full : length (take 28 c.args.bytes.now) ≡ 28 = length-take-le 28 c.args.bytes.now (omega arith) in
-    let sized : length few ≡ c.in-Ended.done = length-take-le c.in-Ended.done c.read_full.new.buf (omega (arith, told.count)) in
+    let sized : length few ≡ c.in-Ended.done =
+    length-take-le c.in-Ended.done c.read_full.new.buf (omega (arith, told.count)) in
     Consumes-whole _ _ few (StopsBefore Short) told.bytes.0 told.bytes.1
     (omega (arith, sized, c.if-done-eq0.false), no_head few (omega (arith, sized, told.count, full)))
 
@@ -49,7 +52,8 @@ returns-then-count-eq0-clause-bytes g c =
     let head = c.read_full.new.buf in
     let sized : length head ≡ 28 = omega (arith, length-take-le 28 c.args.bytes.now (omega arith)) in
     let words = read head c.args.bytes.now c.args.words.now sized c.requires.word_room c.read_words.ensures.fits c.read_words.ensures.written in
-    let none : length_named (words_in head) ≡ 0 = sym (ap length_named words) ∙ sym c.record_length-count.ensures ∙ c.if-count-eq0.true in
+    let none : length_named (words_in head) ≡ 0 =
+    sym (ap length_named words) ∙ sym c.record_length-count.ensures ∙ c.if-count-eq0.true in
     by_front _ _ head (StopsBefore TooLong) c.in-Full.ensures.bytes (λ more. still_too_many head more sized none)
 
 pub read_curve-requires-clause-fits : goal.read_curve-requires-clause-fits

@@ -19,7 +19,8 @@ use Rattle.surface.proofs.LastRow.{one_left}
 use Rattle.surface.proofs.grid.write_grid.Goals as goal
 use Rattle.surface.proofs.grid.write_grid.Goals.{After-ring_size, After-straight-ahead}
 
-ahead : (c : After-straight-ahead) → let s = c.args.s in c.straight-ahead.result ≡ straight_of (chain_of s.ending) s.rows
+ahead : (c : After-straight-ahead)
+    → let s = c.args.s in c.straight-ahead.result ≡ straight_of (chain_of s.ending) s.rows
 ahead c = let s = c.args.s in
     c.straight-ahead.ensures ∙ ap (λ k. straight_of k s.rows) c.chain.ensures
 
@@ -71,7 +72,8 @@ returns-then-ahead-rows c = let at_ring = (goal.at.returns-then-ahead-rows c).Af
     let rows = grid_triangles s.split Open k s.round s.columns a.base in
     let row = row_triangles s.split s.round s.columns (a.base + k * ring_size s) a.base in
     let first = c.write_rows in
-    let place : a.at + k * s.columns * 6 ≡ a.at + k * (s.columns * 6) = ap (λ (p : ℕ). a.at + p) (mul_assoc k s.columns 6) in
+    let place : a.at + k * s.columns * 6 ≡ a.at + k * (s.columns * 6) =
+    ap (λ (p : ℕ). a.at + p) (mul_assoc k s.columns 6) in
     written_behind a.at (flatten rows) (flatten row) a.out.now first.ensures
     (length-grid s.split s.round s.columns Open k a.base)
     (c.write_row.ensures

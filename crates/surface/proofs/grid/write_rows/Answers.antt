@@ -58,7 +58,8 @@ repeat_raised-requires c = let w = (goal.at.repeat_raised-requires c).After-writ
     let s = a.s in
     let f = room s a.rows a.base a.at (length a.out.now) c.requires (omega arith) in
     let kept = c.write_row.auto.out in
-    let rises : a.rows * c.ring_size-ring.result ≡ a.rows * ring_size s = ap (λ k. a.rows * k) c.ring_size-ring.ensures in
+    let rises : a.rows * c.ring_size-ring.result ≡ a.rows * ring_size s =
+    ap (λ k. a.rows * k) c.ring_size-ring.ensures in
     record {
       some = omega arith;
       within = omega arith;

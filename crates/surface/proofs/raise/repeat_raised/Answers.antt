@@ -65,7 +65,8 @@ copy_raised-requires c = let a = c.args in
     record {
       before = omega (arith, mul-le-mul_right a.size c.at_once-count.ensures.1);
       within = omega arith;
-      numbers = subst (λ (r : List ℕ). Below (2 ^ 28) r) (sym (next (goal.at.copy_raised-requires c).After-at_once-count))
+      numbers =
+          subst (λ (r : List ℕ). Below (2 ^ 28) r) (sym (next (goal.at.copy_raised-requires c).After-at_once-count))
           (below-blocks (2 ^ 28) count (λ k. f (l.done + k)) (λ k h. c.requires.numbers (l.done + k) (omega arith)));
     }
 

@@ -1,4 +1,5 @@
--- The records that were read so far are the front of the input, and were all added. Assumes nothing.
+-- The records that were read so far are the front of the input, and were all added. Assumes
+-- nothing.
 use Rattle.std.proofs.Common.{◌≡◌, ◌-◌, length}
 use Rattle.set_table.specs.Buffers.{buffers}
 use Rattle.sweep.proofs.AfterRecords.{SoFar}

@@ -10,7 +10,8 @@ pub returns-in-Refused : goal.returns-in-Refused
 returns-in-Refused c =
     let a = c.args in
     let s = buffers a.table.now a.vertices.now a.triangles.now in
-    let done = no-word-left (file_words s) a.words.now c.loop-i.invariant (end-told s c.loop-i.i c.in-Refused.ensures) in
+    let done =
+    no-word-left (file_words s) a.words.now c.loop-i.invariant (end-told s c.loop-i.i c.in-Refused.ensures) in
     record { count = done.0; written = done.1 }
 
 pub loop-i-preserved : goal.loop-i-preserved

@@ -18,5 +18,6 @@ returns-clause-front g c =
     let old = g.W.Write.contents a.output.now in
     let new = g.W.Write.contents c.flush.new.self in
     let written = subst (Appends old new) c.requires (Appends-kept _ _ _ _ c.in_ok-write_all.ensures.whole c.flush.ensures.bytes) in
-    let front : AppendsFront old new file = (length file, le_refl _, subst (Appends old new) (sym (take_all (length file) file (le_refl _))) written) in
+    let front : AppendsFront old new file =
+    (length file, le_refl _, subst (Appends old new) (sym (take_all (length file) file (le_refl _))) written) in
     whenever c.flush.result (AppendsFront old new file) front

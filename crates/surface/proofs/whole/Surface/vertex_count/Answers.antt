@@ -15,4 +15,5 @@ returns-then-is_capped c = rw (sym c.is_capped.ensures ∙ c.if-is_capped.true) 
 
 pub returns : goal.returns
 unfolding surface_vertex_count
-returns c = rw (sym c.is_capped.ensures ∙ c.if-is_capped.false) (omega (arith, grid-is (goal.at.returns c).After-ring_size))
+returns c =
+    rw (sym c.is_capped.ensures ∙ c.if-is_capped.false) (omega (arith, grid-is (goal.at.returns c).After-ring_size))
