@@ -15,7 +15,7 @@ use answers::Outcome;
 // past its end. Answers how many numbers there are now.
 fn put_answer(reply: Reply, answers: &mut [u32], i: usize) -> usize
     requires { i + 1 ≤ 18446744073709551615 }
-    ensures value { result ≡ i + length (replies_in reply) }
+    ensures count { result ≡ i + length (replies_in reply) }
     ensures answers_after { answers.new ≡ overwrite i (numbers_of (replies_in reply)) answers.old }
 {
     match reply {
@@ -38,7 +38,7 @@ fn add_all(
     vertices: &mut [f32],
     triangles: &mut [u32],
 )
-    ensures triangles_after { let s = buffers table.old vertices.old triangles.old in
+    ensures set_after { let s = buffers table.old vertices.old triangles.old in
         buffers table.new vertices.new triangles.new
         ≡ (additions (additions_in records.now) s).left }
     ensures answers_after { let s = buffers table.old vertices.old triangles.old in

@@ -14,6 +14,6 @@ returns-then-write_vertices c =
     let room = length c.args.values.now in
     let told = accepted-by (checked_tests d curve) (topology_of d (length curve / 3)) c.in-Accepted.ensures in
     let count = c.vertex_count.ensures ∙ ap vertex_count told.0 in
-    let written = sym c.write_vertices.ensures.value ∙ c.if-write_vertices.true in
+    let written = sym c.write_vertices.ensures.answer ∙ c.if-write_vertices.true in
     let fits = drawn-room d curve room written in
     rw count (omega (arith, fits))

@@ -19,5 +19,5 @@ has_room t first room answer written count =
 
 pub returns-then-write_triangles : goal.returns-then-write_triangles
 returns-then-write_triangles c =
-    let room = has_room _ _ _ c.write_triangles.ensures.value c.if-write_triangles.true c.triangle_count.ensures in
+    let room = has_room _ _ _ c.write_triangles.ensures.answer c.if-write_triangles.true c.triangle_count.ensures in
     omega (arith, room)

@@ -25,9 +25,3 @@ invariant-loop-words l =
 abbrev pub decreases-loop-words : goal.decreases-loop-words
 decreases-loop-words l =
     length l.records - l.at
-
-abbrev pub start : tie.At-loop invariant-loop decreases-loop → tie.Start invariant-loop decreases-loop
-start l = l.before.before.before.before.before.before.before
-
-abbrev pub records : tie.At-loop invariant-loop decreases-loop → List ℕ
-records l = (start l).args.records.now
