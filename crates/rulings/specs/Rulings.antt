@@ -91,7 +91,8 @@ pub record Rulings : Type 0 where
 pub rulings : Rulings
 unfolding turn_of within_octant direction_of part_of in_octant sine_of cosine_of bracket fraction minus_fraction whole
     root_of root_of_units whole_root root_digits add sub mul div neg le lt of_int of_bits to_bits
-    size_permitted all_finite segments_permitted segment_refused folds_permitted segment_of vertex_of difference_of dot_of
+    size_permitted all_finite segments_permitted segment_refused folds_permitted segment_of vertex_of
+    difference_of dot_of
 rulings = record {
   m1 = ((refl, refl), (refl, refl), (refl, refl));
   m2 = (refl, refl);

@@ -15,32 +15,11 @@ last n lo hi a b c d =
     let e : lo + 1 ≡ hi = omega arith in
     record { low = subst (λ (x : ℕ). x * x < n + x) e (omega arith); high = d }
 
-pub loop-lo-init : goal.loop-lo-init
-loop-lo-init c = omega arith
-
-pub overflow_add-lo : goal.overflow_add-lo
-overflow_add-lo c = omega arith
-
-pub overflow_add-mid : goal.overflow_add-mid
-overflow_add-mid c = omega arith
-
 pub overflow_mul-mid : goal.overflow_mul-mid
 overflow_mul-mid c = omega (arith, square ((c.loop-lo.lo + c.loop-lo.hi) / 2) (omega arith))
 
 pub overflow_add-mid-in-loop-lo : goal.overflow_add-mid-in-loop-lo
 overflow_add-mid-in-loop-lo c = omega (arith, square ((c.loop-lo.lo + c.loop-lo.hi) / 2) (omega arith))
-
-pub loop-lo-smaller-then-mid-n : goal.loop-lo-smaller-then-mid-n
-loop-lo-smaller-then-mid-n c = omega arith
-
-pub loop-lo-preserved-then-mid-n : goal.loop-lo-preserved-then-mid-n
-loop-lo-preserved-then-mid-n c = omega arith
-
-pub loop-lo-smaller : goal.loop-lo-smaller
-loop-lo-smaller c = omega arith
-
-pub loop-lo-preserved : goal.loop-lo-preserved
-loop-lo-preserved c = omega arith
 
 pub returns : goal.returns
 returns c =

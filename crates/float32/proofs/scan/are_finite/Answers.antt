@@ -7,4 +7,4 @@ pub returns : goal.returns
 unfolding all_finite
 returns c =
     let end : c.loop-i.i ≡ length c.args.values.now = omega arith in
-    rw (← end) c.loop-i.invariant.1
+    rw (← end) c.loop-i.invariant.told

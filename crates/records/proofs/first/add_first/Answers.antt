@@ -56,7 +56,8 @@ returns-then-end-eq0 c =
     ap (λ (list : List Call). additions list s) (sym (no-addition a.words.now none))
 
 pub describe-requires : goal.describe-requires
-describe-requires c = (there c.args.words.now c.record_words-end.result c.record_words-end.ensures c.if-end-eq0.false).head
+describe-requires c =
+    (there c.args.words.now c.record_words-end.result c.record_words-end.ensures c.if-end-eq0.false).head
 
 pub slice_bounds-add_body-end : goal.slice_bounds-add_body-end
 slice_bounds-add_body-end c =

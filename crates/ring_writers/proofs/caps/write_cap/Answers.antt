@@ -1,5 +1,5 @@
 -- Each turn of the loop writes one ring after the one before. Assumes nothing.
-use mathlib.Core.Path.{◌≡◌, refl, sym, ◌∙◌}
+use mathlib.Core.Path.{◌≡◌, sym}
 use Prim.Native.Nat.{◌+◌, ◌*◌, ◌≤◌}
 use native.Mathlib.Omega.{arith}
 use lib.ListN.{length}
@@ -23,7 +23,7 @@ room c =
     )
 
 pub loop-j-init : goal.loop-j-init
-loop-j-init c = (sym (overwrite-none _ _), omega arith, omega arith, refl)
+loop-j-init c = record { written = sym (overwrite-none _ _); place = omega arith; within = omega arith }
 
 pub write_ring-requires-clause-room : goal.write_ring-requires-clause-room
 write_ring-requires-clause-room c = omega (arith, room (goal.at.write_ring-requires-clause-room c).In-loop-j)
@@ -35,19 +35,19 @@ pub loop-j-preserved : goal.loop-j-preserved
 loop-j-preserved c =
     let l = c.loop-j in
     let a = c.args in
-    let f = ring_at a.end a.axes a.radius a.longitudes a.n in (
-      one_more 0 l.j (a.n * 3) f a.out.now
-          (λ k h. length-ring (cap_vertex a.end a.axes a.radius a.longitudes k) a.n) l.invariant.0
+    let f = ring_at a.end a.axes a.radius a.longitudes a.n in
+    record {
+      written = one_more 0 l.j (a.n * 3) f a.out.now
+          (λ k h. length-ring (cap_vertex a.end a.axes a.radius a.longitudes k) a.n) l.invariant.written
           (omega arith) c.write_ring.ensures
-          (cap-ring a.end a.axes a.radius a.longitudes l.j a.n c.cap_ring.ensures),
-      omega (arith, next_row l.j (a.n * 3)),
-      omega arith,
-      c.write_ring.auto.out ∙ l.invariant.3,
-    )
+          (cap-ring a.end a.axes a.radius a.longitudes l.j a.n c.cap_ring.ensures);
+      place = omega (arith, next_row l.j (a.n * 3));
+      within = omega arith;
+    }
 
 pub returns : goal.returns
 returns c =
     let o = c.loop-j in
     let a = c.args in
     let e : o.j ≡ a.longitudes = omega arith in
-    all-written 0 (ring_at a.end a.axes a.radius a.longitudes a.n) a.out.now o.invariant.0 e
+    all-written 0 (ring_at a.end a.axes a.radius a.longitudes a.n) a.out.now o.invariant.written e

@@ -9,24 +9,24 @@ use Rattle.ring_writers.proofs.Tables.{direction-at}
 use Rattle.ring_writers.proofs.ring_writer.write_level.Goals as goal
 
 pub loop-i-init : goal.loop-i-init
-loop-i-init c = (sym (overwrite-none _ _), omega arith, omega arith, refl)
+loop-i-init c = record { written = sym (overwrite-none _ _); place = omega arith; within = omega arith }
 
 pub loop-i-preserved : goal.loop-i-preserved
 loop-i-preserved c =
     let l = c.loop-i in
-    let a = c.args in (
-      one_more a.at l.i 3 (vertex_on (level_at a.radius a.y) a.n) a.out.now (λ k h. refl) l.invariant.0
+    let a = c.args in
+    record {
+      written = one_more a.at l.i 3 (vertex_on (level_at a.radius a.y) a.n) a.out.now (λ k h. refl) l.invariant.written
           (omega arith) c.put_point.ensures
           (ap coordinates (c.level.ensures ∙ ap (level_at a.radius a.y)
-          (direction-at a.n c.requires.turned l.i c.loop-i-test.true l.invariant.1))),
-      omega arith,
-      omega arith,
-      c.put_point.auto.out ∙ l.invariant.3,
-    )
+          (direction-at a.n c.requires.turned l.i c.loop-i-test.true l.invariant.place)));
+      place = omega arith;
+      within = omega arith;
+    }
 
 pub returns : goal.returns
 returns c =
     let o = c.loop-i in
     let a = c.args in
     let e : o.i ≡ a.n = omega arith in
-    all-written a.at (vertex_on (level_at a.radius a.y) a.n) a.out.now o.invariant.0 e
+    all-written a.at (vertex_on (level_at a.radius a.y) a.n) a.out.now o.invariant.written e

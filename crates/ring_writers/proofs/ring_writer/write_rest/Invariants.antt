@@ -3,7 +3,6 @@ use mathlib.Core.Path.{◌≡◌}
 use mathlib.Core.List.{List}
 use Prim.Native.Nat.{ℕ, ◌+◌, ◌*◌, ◌-◌, ◌≤◌}
 use lib.Ieee.{Float}
-use lib.ListN.{length}
 use Rattle.laws.specs.Overwrite.{overwrite}
 use Rattle.laws.specs.Blocks.{blocks}
 use Rattle.rings.specs.Vertices.{vertex_on}
@@ -16,9 +15,14 @@ abbrev pub later : Ring → ℕ → ℕ → ℕ → List Float
 later ring from n j = vertex_on (ring_vertex ring) n (from + j)
 
 abbrev pub invariant-loop-i : goal.invariant-loop-i
-invariant-loop-i l =
-    (l.out ≡ overwrite (l.at + l.from * 3) (blocks (l.i - l.from) (later l.ring l.from l.n)) l.initial.out) × (l.k ≡ l.i * 3) × (l.from ≤ l.i) × (l.i ≤ l.n)
-    × (length l.out ≡ length l.initial.out)
+invariant-loop-i l = record {
+  written :
+      l.out
+      ≡ overwrite (l.at + l.from * 3) (blocks (l.i - l.from) (later l.ring l.from l.n)) l.initial.out;
+  place : l.k ≡ l.i * 3;
+  begun : l.from ≤ l.i;
+  within : l.i ≤ l.n;
+}
 
 abbrev pub decreases-loop-i : goal.decreases-loop-i
 decreases-loop-i l = l.n - l.i

@@ -3,7 +3,6 @@ use mathlib.Core.Path.{◌≡◌}
 use mathlib.Core.List.{List}
 use Prim.Native.Nat.{ℕ, ◌+◌, ◌*◌, ◌-◌, ◌≤◌}
 use lib.Ieee.{Float}
-use lib.ListN.{length}
 use Rattle.laws.specs.Overwrite.{overwrite}
 use Rattle.laws.specs.Blocks.{blocks}
 use Rattle.rings.specs.Vertices.{ring_of, level_vertex}
@@ -14,9 +13,13 @@ abbrev pub ring_at : Float → Float → Float → ℕ → ℕ → ℕ → List 
 ring_at r low height S n g = ring_of (level_vertex r low height S g) n
 
 abbrev pub invariant-loop-g : goal.invariant-loop-g
-invariant-loop-g l =
-    (l.out ≡ overwrite 0 (blocks l.g (ring_at l.radius l.low l.height l.layers l.n)) l.initial.out) × (l.place ≡ l.g * (l.n * 3)) × (l.g ≤ l.layers + 1)
-    × (length l.out ≡ length l.initial.out)
+invariant-loop-g l = record {
+  written :
+      l.out
+      ≡ overwrite 0 (blocks l.g (ring_at l.radius l.low l.height l.layers l.n)) l.initial.out;
+  place : l.place ≡ l.g * (l.n * 3);
+  within : l.g ≤ l.layers + 1;
+}
 
 abbrev pub decreases-loop-g : goal.decreases-loop-g
 decreases-loop-g l = l.layers + 1 - l.g

@@ -31,23 +31,27 @@ cosine-written n i t₀ {t} h before place written is =
     (omega arith) refl refl)
 
 pub loop-i-init : goal.loop-i-init
-loop-i-init c = (sym (overwrite-none _ _ ∙ overwrite-none _ _), omega arith, omega arith, refl)
+loop-i-init c = record {
+  written = sym (overwrite-none _ _ ∙ overwrite-none _ _);
+  place = omega arith;
+  within = omega arith;
+}
 
 pub loop-i-preserved : goal.loop-i-preserved
 loop-i-preserved c =
     let l = c.loop-i in
     let a = c.args in
-    let d = c.turn-d.ensures in (
-      one_more 768 l.i 3 (λ k. coordinates (sine a.n k))
+    let d = c.turn-d.ensures in
+    record {
+      written = one_more 768 l.i 3 (λ k. coordinates (sine a.n k))
           (overwrite 0 (blocks (l.i + 1) (λ k. coordinates (cosine a.n k))) a.turns.now) (λ k h. refl)
-          (cosine-written a.n l.i a.turns.now (omega arith) l.invariant.0 l.invariant.1 c.put_point.ensures
+          (cosine-written a.n l.i a.turns.now (omega arith) l.invariant.written l.invariant.place c.put_point.ensures
           (ap coordinates (c.thrice.ensures ∙ ap (λ (d : Direction). thrice d.cos) d)))
           (omega arith) c.put_point-in-loop-i.ensures
-          (ap coordinates (c.thrice-in-loop-i.ensures ∙ ap (λ (d : Direction). thrice d.sin) d)),
-      omega arith,
-      omega arith,
-      c.put_point-in-loop-i.auto.out ∙ c.put_point.auto.out ∙ l.invariant.3,
-    )
+          (ap coordinates (c.thrice-in-loop-i.ensures ∙ ap (λ (d : Direction). thrice d.sin) d));
+      place = omega arith;
+      within = omega arith;
+    }
 
 pub returns : goal.returns
 returns c =
@@ -59,7 +63,7 @@ returns c =
     let sines = blocks n (λ k. coordinates (sine n k)) in
     let long : length (overwrite 0 cosines t₀) ≡ length t₀ = length-overwrite 0 cosines t₀ in
     let short : length cosines ≡ n * 3 = length-blocks 3 n (λ k. coordinates (cosine n k)) (λ k h. refl) in
-    let is = o.invariant.0 ∙ ap (λ (i : ℕ). filled n i i t₀) e in
+    let is = o.invariant.written ∙ ap (λ (i : ℕ). filled n i i t₀) e in
     record {
       most = c.requires.most;
       room = omega arith;

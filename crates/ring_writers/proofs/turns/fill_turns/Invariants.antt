@@ -4,7 +4,6 @@ use mathlib.Core.Path.{◌≡◌}
 use mathlib.Core.List.{List}
 use Prim.Native.Nat.{ℕ, ◌*◌, ◌-◌, ◌≤◌}
 use lib.Ieee.{Float}
-use lib.ListN.{length}
 use Rattle.laws.specs.Overwrite.{overwrite}
 use Rattle.laws.specs.Blocks.{blocks}
 use Rattle.vec3.specs.Points.{coordinates, thrice}
@@ -25,8 +24,11 @@ filled n i j t₀ = overwrite 768 (blocks j (λ k. coordinates (sine n k)))
     (overwrite 0 (blocks i (λ k. coordinates (cosine n k))) t₀)
 
 abbrev pub invariant-loop-i : goal.invariant-loop-i
-invariant-loop-i l = (l.turns ≡ filled l.n l.i l.i l.initial.turns) × (l.place ≡ l.i * 3) × (l.i ≤ l.n)
-    × (length l.turns ≡ length l.initial.turns)
+invariant-loop-i l = record {
+  written : l.turns ≡ filled l.n l.i l.i l.initial.turns;
+  place : l.place ≡ l.i * 3;
+  within : l.i ≤ l.n;
+}
 
 abbrev pub decreases-loop-i : goal.decreases-loop-i
 decreases-loop-i l = l.n - l.i

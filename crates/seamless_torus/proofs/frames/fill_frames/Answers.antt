@@ -18,14 +18,13 @@ on-first : (f : After-first-carried) → f.first-carried.result ≡ carried_in f
 on-first f = f.first-carried.ensures ∙ ap carried_on f.point.ensures
 
 pub loop-g-init : goal.loop-g-init
-loop-g-init c = (
-  sym (overwrite-none _ _),
-  on-first (goal.at.loop-g-init c).After-first-carried,
-  omega arith,
-  omega arith,
-  omega arith,
-  refl,
-)
+loop-g-init c = record {
+  written = sym (overwrite-none _ _);
+  carried = on-first (goal.at.loop-g-init c).After-first-carried;
+  place = omega arith;
+  begun = omega arith;
+  within = omega arith;
+}
 
 pub loop-g-preserved : goal.loop-g-preserved
 loop-g-preserved c =
@@ -36,16 +35,16 @@ loop-g-preserved c =
     let here : l.g - 1 + 1 ≡ l.g = omega arith in
     let next : l.g ≡ l.g + 1 - 1 = omega arith in
     let place : l.k ≡ 3 + (l.g - 1) * 3 = omega arith in
-    let along = c.point-in-loop-g.ensures ∙ ap (point_at dirs) l.invariant.2 in
-    let on = carried_on-next dirs l.g l.invariant.3 l.invariant.1 along c.next-carried.ensures in (
-      all-written 3 f before (one_more 3 (l.g - 1) 3 f before (λ k h. refl) l.invariant.0 place
-          c.put_point-in-loop-g.ensures (ap coordinates_of on ∙ ap (frame_at dirs) (sym here))) (here ∙ next),
-      on ∙ ap (carried_in dirs) next,
-      omega arith,
-      omega arith,
-      omega arith,
-      c.put_point-in-loop-g.auto.out ∙ l.invariant.5,
-    )
+    let along = c.point-in-loop-g.ensures ∙ ap (point_at dirs) l.invariant.place in
+    let on = carried_on-next dirs l.g l.invariant.begun l.invariant.carried along c.next-carried.ensures in
+    record {
+      written = all-written 3 f before (one_more 3 (l.g - 1) 3 f before (λ k h. refl) l.invariant.written place
+          c.put_point-in-loop-g.ensures (ap coordinates_of on ∙ ap (frame_at dirs) (sym here))) (here ∙ next);
+      carried = on ∙ ap (carried_in dirs) next;
+      place = omega arith;
+      begun = omega arith;
+      within = omega arith;
+    }
 
 pub returns : goal.returns
 returns c =
@@ -54,9 +53,9 @@ returns c =
     let dirs = a.directions.now in
     let e : o.g - 1 ≡ a.count - 1 = omega arith in
     record {
-      carried = o.invariant.1 ∙ ap (carried_in dirs) e;
+      carried = o.invariant.carried ∙ ap (carried_in dirs) e;
       written =
           first-and-others a.count 3 (frame_at dirs) a.frames.now c.requires.segment refl c.put_point.ensures
           (ap coordinates_of (on-first (goal.at.returns c).After-first-carried))
-          (all-written 3 (later_frame dirs) c.put_point.new.out o.invariant.0 e);
+          (all-written 3 (later_frame dirs) c.put_point.new.out o.invariant.written e);
     }

@@ -4,7 +4,6 @@ use mathlib.Core.Path.{◌≡◌}
 use mathlib.Core.List.{List}
 use Prim.Native.Nat.{ℕ, ◌+◌, ◌*◌, ◌-◌, ◌≤◌}
 use lib.Ieee.{Float}
-use lib.ListN.{length}
 use Rattle.laws.specs.Overwrite.{overwrite}
 use Rattle.laws.specs.Blocks.{blocks}
 use Rattle.vec3.specs.Points.{coordinates}
@@ -24,13 +23,13 @@ abbrev pub later_frame : List Float → ℕ → List Float
 later_frame directions k = frame_at directions (k + 1)
 
 abbrev pub invariant-loop-g : goal.invariant-loop-g
-invariant-loop-g l =
-    (l.frames ≡ overwrite 3 (blocks (l.g - 1) (later_frame l.directions)) l.initial.frames)
-    × (l.carried ≡ carried_in l.directions (l.g - 1))
-    × (l.k ≡ l.g * 3)
-    × (1 ≤ l.g)
-    × (l.g ≤ l.count)
-    × (length l.frames ≡ length l.initial.frames)
+invariant-loop-g l = record {
+  written : l.frames ≡ overwrite 3 (blocks (l.g - 1) (later_frame l.directions)) l.initial.frames;
+  carried : l.carried ≡ carried_in l.directions (l.g - 1);
+  place : l.k ≡ l.g * 3;
+  begun : 1 ≤ l.g;
+  within : l.g ≤ l.count;
+}
 
 abbrev pub decreases-loop-g : goal.decreases-loop-g
 decreases-loop-g l = l.count - l.g

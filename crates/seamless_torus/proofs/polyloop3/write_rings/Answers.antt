@@ -1,6 +1,6 @@
 -- Each turn of the loop writes the ring at one vertex after the one before: the frame there is the
 -- carried one of the table, turned by its share of the twist. Assumes nothing.
-use mathlib.Core.Path.{◌≡◌, refl, sym, ap, ◌∙◌}
+use mathlib.Core.Path.{◌≡◌, sym, ap, ◌∙◌}
 use Prim.Native.Nat.{◌+◌, ◌*◌, ◌≤◌}
 use native.Mathlib.Omega.{arith}
 use lib.ListN.{length}
@@ -33,7 +33,12 @@ room i =
     )
 
 pub loop-g-init : goal.loop-g-init
-loop-g-init c = (sym (overwrite-none _ _), omega arith, omega arith, omega arith, refl)
+loop-g-init c = record {
+  written = sym (overwrite-none _ _);
+  place = omega arith;
+  along = omega arith;
+  within = omega arith;
+}
 
 pub write_ring-requires-clause-room : goal.write_ring-requires-clause-room
 write_ring-requires-clause-room c = omega (arith, room (goal.at.write_ring-requires-clause-room c).In-loop-g)
@@ -46,7 +51,7 @@ direction-here : (t : After-at-axes)
     → t.point-ez.result ≡ segment_direction Closed t.args.sweep.segments t.args.curve.now t.loop-g.g
 direction-here t =
     let l = t.loop-g in
-    t.point-ez.ensures ∙ ap (point_at t.args.directions.now) l.invariant.2
+    t.point-ez.ensures ∙ ap (point_at t.args.directions.now) l.invariant.along
     ∙ t.requires.closed_sweep.table.direction l.g t.loop-g-test.true
 
 frame_here : (t : After-at-axes)
@@ -54,7 +59,7 @@ frame_here : (t : After-at-axes)
 unfolding smooth_frame
 frame_here t =
     let l = t.loop-g in
-    let ex = t.point.ensures ∙ ap (point_at t.args.frames.now) l.invariant.2
+    let ex = t.point.ensures ∙ ap (point_at t.args.frames.now) l.invariant.along
     ∙ t.requires.frame_table.frame l.g t.loop-g-test.true in
     t.twisted-frame.ensures
     ∙ (λ j. twisted_frame (record { ex = ex j }) (direction-here t j) (t.share.ensures j))
@@ -78,21 +83,21 @@ loop-g-preserved c =
     let curve = a.curve.now in
     let frame = smooth_frame a.twist N curve in
     let ring = c.around-ring.ensures
-    ∙ ap (λ (o : Order). ring_at o c.at-axes.result sweep.radius) c.requires.closed_sweep.order in (
-      one_more 0 l.g (n * 3) (ring_on sweep curve a.twist) a.out.now
-          (λ k h. length-ring (torus_vertex (axes_of N curve (frame k) k) sweep.radius) n) l.invariant.0 (omega arith)
+    ∙ ap (λ (o : Order). ring_at o c.at-axes.result sweep.radius) c.requires.closed_sweep.order in
+    record {
+      written = one_more 0 l.g (n * 3) (ring_on sweep curve a.twist) a.out.now
+          (λ k h. length-ring (torus_vertex (axes_of N curve (frame k) k) sweep.radius) n) l.invariant.written (omega arith)
           c.write_ring.ensures
           (torus-ring n sweep.radius N curve (frame l.g) l.g ring
-          (axes-here (goal.at.loop-g-preserved c).After-at-axes)),
-      omega (arith, next_row l.g (n * 3)),
-      omega arith,
-      omega arith,
-      c.write_ring.auto.out ∙ l.invariant.4,
-    )
+          (axes-here (goal.at.loop-g-preserved c).After-at-axes));
+      place = omega (arith, next_row l.g (n * 3));
+      along = omega arith;
+      within = omega arith;
+    }
 
 pub returns : goal.returns
 returns c =
     let o = c.loop-g in
     let a = c.args in
     let e : o.g ≡ a.sweep.segments = omega arith in
-    all-written 0 (ring_on a.sweep a.curve.now a.twist) a.out.now o.invariant.0 e
+    all-written 0 (ring_on a.sweep a.curve.now a.twist) a.out.now o.invariant.written e

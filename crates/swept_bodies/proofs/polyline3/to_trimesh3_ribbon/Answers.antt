@@ -19,19 +19,18 @@ use Rattle.swept_bodies.proofs.polyline3.to_trimesh3_ribbon.Goals.{In-loop-g}
 -- a turn's pair is within bounds
 room : (c : In-loop-g) → c.loop-g.place + 6 ≤ length c.loop-g.out
 room c =
-    let same = c.loop-g.invariant.6 ∙ c.put_pair.auto.out in
-    omega (arith, c.requires.room)
+    let same = c.loop-g.auto.out in
+    omega (arith, c.put_pair.auto.out, c.requires.room)
 
 pub loop-g-init : goal.loop-g-init
-loop-g-init c = (
-  sym (overwrite-none _ _),
-  c.first-carried.ensures ∙ ap carried_on c.point.ensures,
-  omega arith,
-  omega arith,
-  omega arith,
-  c.requires.open_curve.segment,
-  refl,
-)
+loop-g-init c = record {
+  written = sym (overwrite-none _ _);
+  carried = c.first-carried.ensures ∙ ap carried_on c.point.ensures;
+  place = omega arith;
+  along = omega arith;
+  begun = omega arith;
+  within = c.requires.open_curve.segment;
+}
 
 pub put_pair-requires-in-loop-g : goal.put_pair-requires-in-loop-g
 put_pair-requires-in-loop-g c = omega (arith, room (goal.at.put_pair-requires-in-loop-g c).In-loop-g)
@@ -49,21 +48,21 @@ loop-g-preserved c =
     let here : l.g - 1 + 1 ≡ l.g = omega arith in
     let next : l.g ≡ l.g + 1 - 1 = omega arith in
     let place : l.place ≡ 6 + (l.g - 1) * 6 = omega arith in
-    let along = c.point-in-loop-g.ensures ∙ ap (point_at dirs) l.invariant.3 in
-    let on = carried_on-next dirs l.g l.invariant.4 l.invariant.1 along c.next-carried.ensures in
+    let along = c.point-in-loop-g.ensures ∙ ap (point_at dirs) l.invariant.along in
+    let on = carried_on-next dirs l.g l.invariant.begun l.invariant.carried along c.next-carried.ensures in
     let frame = ap (λ (b : Carried). b.frame) on
-    ∙ frame-within m curve has.table has.segment l.g c.loop-g-test.true in (
-      all-written 6 f before (one_more 6 (l.g - 1) 6 f before (λ k h. refl)
-          l.invariant.0 place c.put_pair-in-loop-g.ensures
+    ∙ frame-within m curve has.table has.segment l.g c.loop-g-test.true in
+    record {
+      written = all-written 6 f before (one_more 6 (l.g - 1) 6 f before (λ k h. refl)
+          l.invariant.written place c.put_pair-in-loop-g.ensures
           ((λ i. ribbon_pair (c.vertex-in-loop-g.ensures i) (frame i) a.width)
-          ∙ ap (ribbon_part a.width m curve) (sym here))) (here ∙ next),
-      on ∙ ap (carried_in dirs) next,
-      omega arith,
-      omega arith,
-      omega arith,
-      omega arith,
-      c.put_pair-in-loop-g.auto.out ∙ l.invariant.6,
-    )
+          ∙ ap (ribbon_part a.width m curve) (sym here))) (here ∙ next);
+      carried = on ∙ ap (carried_in dirs) next;
+      place = omega arith;
+      along = omega arith;
+      begun = omega arith;
+      within = omega arith;
+    }
 
 pub returns : goal.returns
 returns c =
@@ -79,11 +78,11 @@ returns c =
     let place : o.place ≡ 6 + (m - 1) * 6 = omega arith in
     let start = c.first-carried.ensures ∙ ap carried_on c.point.ensures in
     let frame = ap (λ (b : Carried). b.frame) start ∙ frame-within m curve table segment 0 segment in
-    let frame-end = ap (λ (b : Carried). b.frame) (o.invariant.1 ∙ ap (carried_in dirs) e)
+    let frame-end = ap (λ (b : Carried). b.frame) (o.invariant.carried ∙ ap (carried_in dirs) e)
     ∙ frame-last m curve table segment in
     ends-written m 6 ((m - 1) * 6) f a.out.now segment refl
     (length-blocks 6 (m - 1) (later_pair a.width m curve) (λ k h. refl)) c.put_pair.ensures
     (λ i. ribbon_pair (c.vertex.ensures i) (frame i) a.width)
-    (all-written 6 (later_pair a.width m curve) c.put_pair.new.out o.invariant.0 e)
+    (all-written 6 (later_pair a.width m curve) c.put_pair.new.out o.invariant.written e)
     c.put_pair-2.ensures place
     (λ i. ribbon_pair (c.vertex-2.ensures i) (frame-end i) a.width)

@@ -14,7 +14,12 @@ use Rattle.swept_bodies.proofs.swept.fill_framez.Invariants.{between_in}
 use Rattle.swept_bodies.proofs.swept.fill_framez.Goals as goal
 
 pub loop-g-init : goal.loop-g-init
-loop-g-init c = (sym (overwrite-none _ _), omega arith, omega arith, omega arith, refl)
+loop-g-init c = record {
+  written = sym (overwrite-none _ _);
+  place = omega arith;
+  begun = omega arith;
+  within = omega arith;
+}
 
 pub loop-g-preserved : goal.loop-g-preserved
 loop-g-preserved c =
@@ -22,17 +27,17 @@ loop-g-preserved c =
     let a = c.args in
     let dirs = a.directions.now in
     let next : l.g - 1 + 1 ≡ l.g + 1 - 1 = omega arith in
-    let u = c.point.ensures ∙ ap (point_at dirs) l.invariant.1 in
-    let v = c.point-in-loop-g.ensures ∙ ap (λ (k : ℕ). point_at dirs (k + 3)) l.invariant.1 in (
-      all-written 3 (λ k. coordinates (between_in dirs k)) a.out.now
-          (one_more 3 (l.g - 1) 3 (λ k. coordinates (between_in dirs k)) a.out.now (λ k h. refl) l.invariant.0
+    let u = c.point.ensures ∙ ap (point_at dirs) l.invariant.place in
+    let v = c.point-in-loop-g.ensures ∙ ap (λ (k : ℕ). point_at dirs (k + 3)) l.invariant.place in
+    record {
+      written = all-written 3 (λ k. coordinates (between_in dirs k)) a.out.now
+          (one_more 3 (l.g - 1) 3 (λ k. coordinates (between_in dirs k)) a.out.now (λ k h. refl) l.invariant.written
           (omega arith) c.put_point.ensures
-          (ap coordinates (c.framez-ez.ensures ∙ (λ j. between_of (u j) (v j))))) next,
-      omega arith,
-      omega arith,
-      omega arith,
-      c.put_point.auto.out ∙ l.invariant.4,
-    )
+          (ap coordinates (c.framez-ez.ensures ∙ (λ j. between_of (u j) (v j))))) next;
+      place = omega arith;
+      begun = omega arith;
+      within = omega arith;
+    }
 
 pub returns : goal.returns
 returns c =
@@ -40,9 +45,9 @@ returns c =
     let a = c.args in
     let dirs = a.directions.now in
     let e : o.g - 1 ≡ a.count - 1 = omega arith in
-    let whole = all-written 3 (λ k. coordinates (between_in dirs k)) a.out.now o.invariant.0 e in
+    let whole = all-written 3 (λ k. coordinates (between_in dirs k)) a.out.now o.invariant.written e in
     record {
-      room = omega (arith, o.invariant.4, c.requires.room);
+      room = omega (arith, o.auto.out, c.requires.room);
       between = λ g l h.
           let e : (g - 1) * 3 + 3 ≡ g * 3 = omega arith in
           ap (λ (t : List Float). point_at t (g * 3)) whole

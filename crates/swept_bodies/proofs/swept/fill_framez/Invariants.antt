@@ -3,7 +3,6 @@ use mathlib.Core.Path.{◌≡◌}
 use mathlib.Core.List.{List}
 use Prim.Native.Nat.{ℕ, ◌+◌, ◌*◌, ◌-◌, ◌≤◌}
 use lib.Ieee.{Float}
-use lib.ListN.{length}
 use Rattle.laws.specs.Overwrite.{overwrite}
 use Rattle.laws.specs.Blocks.{blocks}
 use Rattle.vec3.specs.Points.{coordinates}
@@ -17,12 +16,12 @@ abbrev pub between_in : List Float → ℕ → Point
 between_in directions k = between_of (point_at directions (k * 3)) (point_at directions (k * 3 + 3))
 
 abbrev pub invariant-loop-g : goal.invariant-loop-g
-invariant-loop-g l =
-    (l.out ≡ overwrite 3 (blocks (l.g - 1) (λ k. coordinates (between_in l.directions k))) l.initial.out)
-    × (l.before ≡ (l.g - 1) * 3)
-    × (1 ≤ l.g)
-    × (l.g - 1 ≤ l.count - 1)
-    × (length l.out ≡ length l.initial.out)
+invariant-loop-g l = record {
+  written : l.out ≡ overwrite 3 (blocks (l.g - 1) (λ k. coordinates (between_in l.directions k))) l.initial.out;
+  place : l.before ≡ (l.g - 1) * 3;
+  begun : 1 ≤ l.g;
+  within : l.g - 1 ≤ l.count - 1;
+}
 
 abbrev pub decreases-loop-g : goal.decreases-loop-g
 decreases-loop-g l = l.count - l.g

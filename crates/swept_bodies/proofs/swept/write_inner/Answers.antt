@@ -1,6 +1,6 @@
 -- Each turn of the loop carries the frame one segment on and writes one ring after the one before.
 -- Assumes nothing.
-use mathlib.Core.Path.{◌≡◌, refl, sym, ap, ◌∙◌}
+use mathlib.Core.Path.{◌≡◌, sym, ap, ◌∙◌}
 use Prim.Native.Nat.{ℕ, ◌+◌, ◌*◌, ◌-◌, ◌≤◌}
 use native.Mathlib.Omega.{arith}
 use lib.ListN.{length}
@@ -32,15 +32,14 @@ room c =
     )
 
 pub loop-g-init : goal.loop-g-init
-loop-g-init c = (
-  sym (overwrite-none _ _),
-  c.requires.started,
-  omega arith,
-  omega arith,
-  omega arith,
-  c.requires.segment,
-  refl,
-)
+loop-g-init c = record {
+  written = sym (overwrite-none _ _);
+  carried = c.requires.started;
+  place = omega arith;
+  along = omega arith;
+  begun = omega arith;
+  within = c.requires.segment;
+}
 
 pub write_ring-requires-clause-room : goal.write_ring-requires-clause-room
 write_ring-requires-clause-room c = omega (arith, room (goal.at.write_ring-requires-clause-room c).In-loop-g)
@@ -59,28 +58,28 @@ loop-g-preserved c =
     let f = inner_ring sweep curve dirs ez in
     let here : l.g - 1 + 1 ≡ l.g = omega arith in
     let next : l.g ≡ l.g + 1 - 1 = omega arith in
-    let along = c.point.ensures ∙ ap (point_at dirs) l.invariant.3 in
-    let on = carried_on-next dirs l.g l.invariant.4 l.invariant.1 along c.next-carried.ensures in
+    let along = c.point.ensures ∙ ap (point_at dirs) l.invariant.along in
+    let on = carried_on-next dirs l.g l.invariant.begun l.invariant.carried along c.next-carried.ensures in
     let axes : c.at-axes.result ≡ axes_in curve dirs ez l.g = c.at-axes.ensures
     ∙ (λ j. axes_at (c.vertex.ensures j) (on j).frame
-    ((c.point-in-loop-g.ensures ∙ ap (point_at ez) l.invariant.3) j)) in
-    let ring = c.around-ring.ensures ∙ ap (λ (b : Axes). ring_at sweep.order b sweep.radius) axes in (
-      all-written 0 f a.out.now (one_more 0 (l.g - 1) (sweep.divisions * 3) f a.out.now
+    ((c.point-in-loop-g.ensures ∙ ap (point_at ez) l.invariant.along) j)) in
+    let ring = c.around-ring.ensures ∙ ap (λ (b : Axes). ring_at sweep.order b sweep.radius) axes in
+    record {
+      written = all-written 0 f a.out.now (one_more 0 (l.g - 1) (sweep.divisions * 3) f a.out.now
           (λ k h. length-ring (ring_vertex (ring_at sweep.order (axes_in curve dirs ez (k + 1)) sweep.radius))
-          sweep.divisions) l.invariant.0 (omega arith) c.write_ring.ensures
+          sweep.divisions) l.invariant.written (omega arith) c.write_ring.ensures
           (ap (λ (k : Ring). ring_of (ring_vertex k) sweep.divisions) ring
-          ∙ ap (ring_in sweep curve dirs ez) (sym here))) (here ∙ next),
-      on ∙ ap (carried_in dirs) next,
-      omega (
+          ∙ ap (ring_in sweep curve dirs ez) (sym here))) (here ∙ next);
+      carried = on ∙ ap (carried_in dirs) next;
+      place = omega (
         arith,
         next_row (l.g - 1) (sweep.divisions * 3),
         ap (λ (k : ℕ). k * (sweep.divisions * 3)) (here ∙ next),
-      ),
-      omega arith,
-      omega arith,
-      omega arith,
-      c.write_ring.auto.out ∙ l.invariant.6,
-    )
+      );
+      along = omega arith;
+      begun = omega arith;
+      within = omega arith;
+    }
 
 pub returns : goal.returns
 returns c =
@@ -89,6 +88,6 @@ returns c =
     let dirs = a.directions.now in
     let e : o.g - 1 ≡ a.sweep.segments - 1 = omega arith in
     record {
-      carried = o.invariant.1 ∙ ap (carried_in dirs) e;
-      written = all-written 0 (inner_ring a.sweep a.curve.now dirs a.ez.now) a.out.now o.invariant.0 e;
+      carried = o.invariant.carried ∙ ap (carried_in dirs) e;
+      written = all-written 0 (inner_ring a.sweep a.curve.now dirs a.ez.now) a.out.now o.invariant.written e;
     }
