@@ -98,15 +98,15 @@ module _ {ℓ} {A : Type ℓ} where
       ap (λ (i : ℕ). get_or (x ∷ overwrite at new old) i d) (suc-add at k)
       ∙ get_or-within at new old k d h (le_of_suc-le-suc (subst (λ (i : ℕ). i < suc (length old)) (suc-add at k) r))
 
-  pub get_d_past : (at : ℕ) (new old : List A) (k : ℕ) (d : A) → at + length new ≤ k
+  pub get_or-past : (at : ℕ) (new old : List A) (k : ℕ) (d : A) → at + length new ≤ k
       → get_or (overwrite at new old) k d ≡ get_or old k d
-  get_d_past at new [] k d h = refl
-  get_d_past zero [] (x ∷ old) k d h = refl
-  get_d_past zero (y ∷ new) (x ∷ old) zero d h =
+  get_or-past at new [] k d h = refl
+  get_or-past zero [] (x ∷ old) k d h = refl
+  get_or-past zero (y ∷ new) (x ∷ old) zero d h =
       absurd (not-suc-le-zero (subst (λ (i : ℕ). i ≤ zero) (add-suc zero (length new)) h))
-  get_d_past zero (y ∷ new) (x ∷ old) (suc k) d h =
-      get_d_past zero new old k d (le_of_suc-le-suc (subst (λ (i : ℕ). i ≤ suc k) (add-suc zero (length new)) h))
-  get_d_past (suc at) new (x ∷ old) zero d h =
+  get_or-past zero (y ∷ new) (x ∷ old) (suc k) d h =
+      get_or-past zero new old k d (le_of_suc-le-suc (subst (λ (i : ℕ). i ≤ suc k) (add-suc zero (length new)) h))
+  get_or-past (suc at) new (x ∷ old) zero d h =
       absurd (not-suc-le-zero (subst (λ (i : ℕ). i ≤ zero) (suc-add at (length new)) h))
-  get_d_past (suc at) new (x ∷ old) (suc k) d h =
-      get_d_past at new old k d (le_of_suc-le-suc (subst (λ (i : ℕ). i ≤ suc k) (suc-add at (length new)) h))
+  get_or-past (suc at) new (x ∷ old) (suc k) d h =
+      get_or-past at new old k d (le_of_suc-le-suc (subst (λ (i : ℕ). i ≤ suc k) (suc-add at (length new)) h))

@@ -12,9 +12,9 @@ module _ {A : Type 0} where
   length_part at count l h = length-take-le count (drop at l) (omega (arith, length-drop at l))
 
   -- element k of a part
-  pub get_d_part : (at count : ℕ) (l : List A) (k : ℕ) (d : A) → k < count
+  pub get_or-part : (at count : ℕ) (l : List A) (k : ℕ) (d : A) → k < count
       → get_or (part at count l) k d ≡ get_or l (at + k) d
-  get_d_part at count l k d h = get_or-take count (drop at l) k d h ∙ get_or-drop at l k d
+  get_or-part at count l k d h = get_or-take count (drop at l) k d h ∙ get_or-drop at l k d
 
   take_more : (m n : ℕ) (l : List A) → take (m + n) l ≡ take m l ++ take n (drop m l)
   take_more zero n l = ap (λ (k : ℕ). take k l) (zero-add n)

@@ -9,10 +9,10 @@ use borrow.Author.Tests.{le-leb, lt-leb}
 use lib.Dec.{leb-suc-suc}
 use lib.Ieee.{Float, nan, binary32, to_bits}
 use lib.ListN.{length, get_or, length-append, length-map, get_or-append}
-use Rattle.laws.specs.Places.{get_d_map}
+use Rattle.laws.specs.Places.{get_or-map}
 use Rattle.answers.specs.Answers.{Answer, Test, refused, accepted}
 use Rattle.answers.proofs.FirstOf.{accepted-by, passed-by, refused-by}
-use Rattle.laws.specs.Parts.{part, length_part, get_d_part}
+use Rattle.laws.specs.Parts.{part, length_part, get_or-part}
 use Rattle.set_table.specs.Entries.{entry_words, table_words, all_words}
 use Rattle.set_table.specs.Table.{bodies_in, totals_in, table_tests, reading_of}
 use Rattle.set_table.proofs.Words.{table-words, table-totals}
@@ -55,7 +55,7 @@ float_words t s = map (to_bits binary32) (floats_held t s)
 
 -- an element of the first `count` of a list
 front : {A : Type 0} (count : ℕ) (l : List A) (k : ℕ) (d : A) → k < count → get_or (part 0 count l) k d ≡ get_or l k d
-front count l k d h = get_d_part 0 count l k d h ∙ ap (λ (i : ℕ). get_or l i d) (zero-add k)
+front count l k d h = get_or-part 0 count l k d h ∙ ap (λ (i : ℕ). get_or l i d) (zero-add k)
 
 -- the file after its head
 abbrev body_in : Totals → Buffers → List ℕ
@@ -93,7 +93,7 @@ module _ (t : Totals) (s : Buffers) (held : Held t s) (place : ℕ) where
   pub entry-word : place < entry_words * t.bodies
       → accepted (get_or s.table (1 + place) 0) ≡ word_in (body_in t s) place
   entry-word h =
-      ap accepted (sym (get_d_part 1 (entry_words * t.bodies) s.table place 0 h) ∙ ap (λ (l : List ℕ). get_or l place 0) (sym entries-there))
+      ap accepted (sym (get_or-part 1 (entry_words * t.bodies) s.table place 0 h) ∙ ap (λ (l : List ℕ). get_or l place 0) (sym entries-there))
       ∙ word-front (entry_words_in t s) (float_words t s ++ indices_held t s) place (omega (arith, entries-length))
 
   module _ (past-entries : entry_words * t.bodies ≤ place) where
@@ -106,7 +106,7 @@ module _ (t : Totals) (s : Buffers) (held : Held t s) (place : ℕ) where
     vertex-word h =
         let k = among_floats t place in
         ap (λ (x : Float). accepted (to_bits binary32 x)) (sym (front (3 * t.vertices) s.vertices k nan h))
-        ∙ ap accepted (get_d_map (to_bits binary32) (floats_held t s) k nan 0 (omega (arith, vertices-length)))
+        ∙ ap accepted (get_or-map (to_bits binary32) (floats_held t s) k nan 0 (omega (arith, vertices-length)))
         ∙ word-front (float_words t s) (indices_held t s) k (omega (arith, floats-length))
         ∙ behind-entries
 

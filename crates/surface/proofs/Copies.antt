@@ -8,7 +8,7 @@ use lib.ListN.{length, get_or, length-map}
 use Rattle.laws.specs.Overwrite.{overwrite, length-overwrite, overwrite-append, written_behind, get_or-before}
 use Rattle.laws.specs.Lent.{lent-part, part-written}
 use Rattle.laws.specs.Blocks.{blocks, length-blocks, blocks-cong, blocks-split, map-blocks}
-use Rattle.laws.specs.Parts.{part, length_part, get_d_part}
+use Rattle.laws.specs.Parts.{part, length_part, get_or-part}
 use Rattle.surface.specs.Raise.{raised, copy_of}
 
 -- ---- a part of the buffer
@@ -17,7 +17,7 @@ use Rattle.surface.specs.Raise.{raised, copy_of}
 pub read-before : (at from size k : ℕ) (new l : List ℕ) → k < size → from + k < at
     → get_or (overwrite at new l) (from + k) 0 ≡ get_or (part from size l) k 0
 read-before at from size k new l h b =
-    get_or-before at new l (from + k) 0 b ∙ sym (get_d_part from size l k 0 h)
+    get_or-before at new l (from + k) 0 b ∙ sym (get_or-part from size l k 0 h)
 
 -- written where it stands, it changes nothing
 pub part-kept : (from size : ℕ) (l : List ℕ) → from + size ≤ length l → l ≡ overwrite from (part from size l) l

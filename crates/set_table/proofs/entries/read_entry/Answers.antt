@@ -3,7 +3,7 @@ use mathlib.Core.Path.{◌≡◌, refl, sym, ap, ◌∙◌}
 use Prim.Native.Nat.{ℕ, ◌+◌, ◌<◌}
 use native.Mathlib.Omega.{arith}
 use lib.ListN.{get_or}
-use Rattle.laws.specs.Parts.{part, get_d_part}
+use Rattle.laws.specs.Parts.{part, get_or-part}
 use Rattle.set_table.specs.Entries.{entry_words, table_words}
 use Rattle.set_table.proofs.entries.read_entry.Goals as goal
 
@@ -13,7 +13,7 @@ returns c =
     let T = a.table.now in
     let at = table_words a.j in
     let word : (k p : ℕ) → p ≡ at + k → k < entry_words → get_or T p 0 ≡ get_or (part at entry_words T) k 0 =
-    λ k p is h. ap (λ (i : ℕ). get_or T i 0) is ∙ sym (get_d_part at entry_words T k 0 h) in
+    λ k p is h. ap (λ (i : ℕ). get_or T i 0) is ∙ sym (get_or-part at entry_words T k 0 h) in
     λ i. record {
       kind = word 0 at (omega arith) (omega arith) i;
       divisions = word 1 (at + 1) refl (omega arith) i;

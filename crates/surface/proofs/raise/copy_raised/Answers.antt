@@ -4,7 +4,7 @@ use mathlib.Core.List.{List, [], ◌∷◌}
 use Prim.Native.Nat.{ℕ, ◌+◌, ◌-◌, ◌^◌, ◌<◌}
 use native.Mathlib.Omega.{arith}
 use lib.ListN.{length, get_or, length-set, length-map}
-use Rattle.laws.specs.Places.{get_d_map}
+use Rattle.laws.specs.Places.{get_or-map}
 use Rattle.laws.specs.Overwrite.{overwrite, overwrite-none, one_store}
 use Rattle.laws.specs.Blocks.{blocks, blocks-map, one_more, all-written}
 use Rattle.laws.specs.Parts.{part, length_part}
@@ -37,7 +37,7 @@ fits c = let a = c.args in
     let sized = length_part (a.at - a.size) a.size a.out.now (omega arith) in
     let h : k < length s = omega arith in
     let m : k < length (raised a.rise s) = omega (arith, length-map s (λ n. a.rise + n)) in
-    omega (arith, get_d_map (λ n. a.rise + n) s k 0 0 h, below_at (2 ^ 28) (raised a.rise s) k p.numbers m)
+    omega (arith, get_or-map (λ n. a.rise + n) s k 0 0 h, below_at (2 ^ 28) (raised a.rise s) k p.numbers m)
 
 pub loop-k-init : goal.loop-k-init
 loop-k-init c = (sym (overwrite-none _ _), omega arith, refl)

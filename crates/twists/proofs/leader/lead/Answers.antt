@@ -3,7 +3,7 @@
 use Rattle.std.proofs.Common.{◌≡◌, sym, ap, ◌∙◌, List, ℕ, ◌+◌, ◌-◌, ◌≤◌, length, get_or, arith}
 use Rattle.std.specs.Prelude.{Float}
 use Rattle.std.specs.Float.{nan}
-use Rattle.laws.specs.Parts.{part, length_part, get_d_part}
+use Rattle.laws.specs.Parts.{part, length_part, get_or-part}
 use Rattle.twists.specs.Leaders.{led_by}
 use Rattle.twists.specs.declared.leader.Leader.{Leader}
 use Rattle.twists.proofs.Leaders.{leads-none, leads-block}
@@ -23,7 +23,7 @@ turned scores base at start now next fits before is =
     let sized : length (block_at at scores) ≡ 32 =
     length_part at size scores (omega arith) ∙ (let e : size ≡ 32 = omega arith in e) in
     leads-block (λ i. get_or scores i nan) (λ i. get_or (block_at at scores) i nan) base at 32 start
-    (λ k g. get_d_part at size scores k nan (omega arith)) before
+    (λ k g. get_or-part at size scores k nan (omega arith)) before
     (is ∙ ap (λ (n : ℕ). led_by (block_at at scores) (base + at) n now) sized)
 
 pub loop-at-preserved-then-not-is_none_above : goal.loop-at-preserved-then-not-is_none_above
