@@ -1,4 +1,4 @@
-ghost use Rattle.std.specs.Prelude.{◌≡◌, ◌<◌, length, IfSome};
+ghost use Rattle.std.specs.Prelude.{◌≡◌, ◌<◌, length, IfNone, IfSome};
 ghost use Rattle.set_table.specs.Buffers.{buffers};
 ghost use Rattle.ledger.specs.Calls.{additions, cleared_set};
 ghost use Rattle.records.specs.Records.{record_words, first_addition};
@@ -36,6 +36,7 @@ fn add_records<R: Read>(
     triangles: &mut [u32],
 ) -> Reading
     ensures counted { IfSome result.stop (λ _. result.count < 18446744073709551615) }
+    ensures endless { IfNone result.stop (result.count ≡ 18446744073709551615) }
     ensures after { let s = buffers table.old vertices.old triangles.old in
         AfterRecords result.count s (buffers table.new vertices.new triangles.new) }
     ensures front { let s = buffers table.old vertices.old triangles.old in
@@ -73,6 +74,7 @@ pub(crate) fn collect<R: Read>(
     triangles: &mut [u32],
 ) -> Reading
     ensures counted { IfSome result.stop (λ _. result.count < 18446744073709551615) }
+    ensures endless { IfNone result.stop (result.count ≡ 18446744073709551615) }
     ensures after { let s = buffers table.old vertices.old triangles.old in
         AfterRecords result.count (cleared_set s)
         (buffers table.new vertices.new triangles.new) }

@@ -1,4 +1,4 @@
-ghost use Rattle.std.specs.Prelude.{◌≡◌, length, IfSome, IsOk, OnOk, OnErr};
+ghost use Rattle.std.specs.Prelude.{◌≡◌, length, IfNone, IfSome, IsOk, OnOk, OnErr};
 ghost use Rattle.std.specs.Io.KnownBytes.{Appends, Keeps};
 ghost use Rattle.streams.specs.Filled.{AppendsFront};
 ghost use Rattle.set_table.specs.Buffers.{buffers};
@@ -37,6 +37,7 @@ pub(crate) fn sweep<R: Read, W: Write, E: Write>(
     ensures set { let s = cleared_set (buffers table.old vertices.old triangles.old) in
         AfterRecords result.reading.count s
         (buffers table.new vertices.new triangles.new) }
+    ensures endless { IfNone result.reading.stop (result.reading.count ≡ 18446744073709551615) }
     ensures all { let s = cleared_set (buffers table.old vertices.old triangles.old) in
         IfSome (R.remaining input.old) (λ bytes. IfSome result.reading.stop (λ why.
         UnlessFailed why (AddedAll bytes s (buffers table.new vertices.new triangles.new)))) }
