@@ -60,3 +60,6 @@ module _ (d : Description) (c : List Float) (room : ℕ) where
 
   pub drawn-room : drawable d c room ≡ true → 3 * vertex_count (topology_of d N) ≤ room
   drawn-room h = (fits-bounds (vertex_count (topology_of d N)) room (tests h).1).1
+
+-- what the code's tests decide
+pub ruleset drawing = (room-decides, not-whole, not-shaped, drawn-room)

@@ -68,6 +68,7 @@ pub(crate) fn fill(
 // and answers true. If its shape is refused, for its number of curve vertices (refusal 10), its
 // divisions (20) or its longitudes or layers (21), or if `out` is too short, it answers false and
 // writes nothing.
+#[tactic(auto, using(crate::proofs::Drawable::drawing))]
 pub fn write_vertices(description: Description, curve: &[f32], out: &mut [f32]) -> bool
     ensures answer { result ≡ drawable description curve.now (length out.old) }
     ensures out_after { out.new ≡ placed result (drawn_of description curve.now) out.old }
