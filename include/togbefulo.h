@@ -7,9 +7,9 @@
  * The library allocates nothing, prints nothing, keeps nothing between two calls, takes less than
  * 128 KiB of stack and needs memset alone of the C library. It is compiled for processors of level
  * x86-64-v2 (SSE4.2, POPCNT), and does not look at which it runs on. Threads may call it at the
- * same time, each with its own buffers. It counts on the floating-point state with which a program starts:
- * rounding to nearest, no traps, subnormal numbers kept. A program that is linked with -ffast-math
- * may start otherwise, and gets other floats then.
+ * same time, each with its own buffers. It counts on the floating-point state with which a program
+ * starts: rounding to nearest, no traps, subnormal numbers kept. A program that is linked with
+ * -ffast-math may start otherwise, and gets other floats then.
  *
  *
  * BUFFERS
