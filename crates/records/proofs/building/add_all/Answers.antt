@@ -2,13 +2,13 @@
 use mathlib.Core.Path.{◌≡◌, sym, ap, ◌∙◌}
 use mathlib.Core.Bool.{true}
 use mathlib.Core.List.{List}
-use Prim.Native.Nat.{ℕ, ◌+◌, ◌-◌, ◌≤◌}
+use Prim.Native.Nat.{ℕ, ◌+◌, ◌≤◌}
 use native.Mathlib.Omega.{arith}
 use borrow.Author.Rules.{part_to_end}
 use lib.ListN.{length, drop, length-drop}
 use Rattle.laws.specs.Overwrite.{length-overwrite}
 use Rattle.set_table.specs.Room.{Lengths, lengths}
-use Rattle.set_table.specs.Buffers.{Buffers, buffers}
+use Rattle.set_table.specs.Buffers.{buffers}
 use Rattle.ledger.specs.Calls.{additions}
 use Rattle.records.specs.Records.{begins_with_record, record_words, first_addition}
 use Rattle.records.specs.Built.{numbers_of}

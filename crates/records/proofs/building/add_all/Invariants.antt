@@ -1,20 +1,10 @@
 -- Each turn makes the calls of one record more; after the last there is none. Assumes nothing.
-use mathlib.Core.Path.{◌≡◌, sym, ap, ◌∙◌}
-use mathlib.Core.Bool.{true}
-use mathlib.Core.List.{List}
-use Prim.Native.Nat.{ℕ, ◌+◌, ◌-◌, ◌≤◌}
-use native.Mathlib.Omega.{arith}
-use borrow.Author.Rules.{rules}
-use borrow.Author.Rules.{part_to_end}
-use lib.ListN.{length, drop, length-drop}
-use Rattle.laws.specs.Overwrite.{length-overwrite}
-use Rattle.set_table.specs.Room.{Lengths, lengths}
-use Rattle.set_table.specs.Buffers.{Buffers, buffers, lengths_of}
-use Rattle.ledger.specs.Calls.{additions}
-use Rattle.records.specs.Records.{begins_with_record, record_words, first_addition}
-use Rattle.records.specs.Built.{replies_in, numbers_of}
-use Rattle.records.proofs.Additions.{whole, record-length, is-record, no_record}
-use Rattle.records.proofs.Progress.{Progress, begun, next, all_left, all-answered}
+use mathlib.Core.Path.{◌≡◌}
+use Prim.Native.Nat.{◌-◌}
+use lib.ListN.{length, drop}
+use Rattle.set_table.specs.Buffers.{buffers}
+use Rattle.records.specs.Records.{record_words}
+use Rattle.records.proofs.Progress.{Progress}
 use Rattle.records.proofs.building.add_all.Given as goal
 
 abbrev pub invariant-loop-words : goal.invariant-loop-words

@@ -1,13 +1,11 @@
 -- Each turn stores the float of one more word. Assumes nothing.
-use mathlib.Core.Path.{◌≡◌, refl, sym, ap, ◌∙◌}
+use mathlib.Core.Path.{◌≡◌}
 use mathlib.Core.List.{List, [], ◌∷◌}
 use Prim.Native.Nat.{ℕ, ◌-◌, ◌≤◌}
-use native.Mathlib.Omega.{arith}
-use borrow.Author.Rules.{rules}
 use lib.Ieee.{Float, binary32, of_bits}
-use lib.ListN.{length, get_or, length-set}
-use Rattle.laws.specs.Overwrite.{overwrite, overwrite-none, one_store}
-use Rattle.laws.specs.Blocks.{blocks, one_more, all-written, blocks-map}
+use lib.ListN.{length, get_or}
+use Rattle.laws.specs.Overwrite.{overwrite}
+use Rattle.laws.specs.Blocks.{blocks}
 use Rattle.records.proofs.first.fill_floats.Given as goal
 
 abbrev pub float : List ℕ → ℕ → List Float

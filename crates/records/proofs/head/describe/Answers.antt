@@ -1,7 +1,6 @@
 -- `of_kind` gets the words of the head, two of them as floats. Assumes nothing.
 use mathlib.Core.Path.{◌∙◌}
 use mathlib.Core.Bool.{not}
-use borrow.Author.Rules.{rules}
 use lib.Dec.{eqb}
 use lib.ListN.{get_or}
 use Rattle.descriptions.specs.KindNumbers.{described_of}

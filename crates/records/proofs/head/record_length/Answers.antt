@@ -1,6 +1,5 @@
 -- Each return is what `length_named` computes to under the tests that led there. Assumes nothing.
 use native.Mathlib.Omega.{arith}
-use borrow.Author.Rules.{rules}
 use borrow.Author.Tests.{le-leb, lt-leb}
 use Rattle.records.specs.Records.{head_names}
 use Rattle.records.proofs.head.record_length.Goals as goal

@@ -1,5 +1,4 @@
 -- The length that is named, or 0 where there are fewer words. Assumes nothing.
-use borrow.Author.Rules.{rules}
 use Rattle.records.proofs.Lengths.{all_there, too_few}
 use Rattle.records.proofs.head.record_words.Goals as goal
 

@@ -1,6 +1,5 @@
 -- Each of the four returns is what the file has there. Assumes nothing.
 use mathlib.Core.Path.{ap, ◌∙◌}
-use borrow.Author.Rules.{rules}
 use Rattle.answers.specs.Answers.{accepted}
 use Rattle.set_table.specs.Buffers.{buffers}
 use Rattle.set_file.proofs.Files.{entry-word, vertex-word, triangle-word, no_word}

@@ -1,6 +1,5 @@
 -- A sound table leaves the answer to the file: its head has the word, or what is behind it.
 -- Assumes nothing.
-use borrow.Author.Rules.{rules}
 use lib.ListN.{length}
 use Rattle.set_table.specs.Buffers.{buffers}
 use Rattle.set_table.proofs.Tables.{reads}

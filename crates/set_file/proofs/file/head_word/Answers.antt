@@ -1,7 +1,6 @@
 -- Four places, each with its word. Assumes nothing.
 use mathlib.Core.Path.{◌≡◌}
 use native.Mathlib.Omega.{arith}
-use borrow.Author.Rules.{rules}
 use Rattle.set_file.proofs.file.head_word.Goals as goal
 
 pub returns-in_default : goal.returns-in_default

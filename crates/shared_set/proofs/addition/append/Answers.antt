@@ -8,7 +8,7 @@ use lib.Ieee.{Float}
 use Rattle.kinds.specs.Kinds.{vertex_count, triangle_count}
 use Rattle.kinds.specs.declared.topology.Topology.{Topology}
 use Rattle.curve.specs.Segments.{vertices_in}
-use Rattle.answers.specs.Answers.{Answer, refused, accepted, first_of}
+use Rattle.answers.specs.Answers.{refused, accepted, first_of}
 use Rattle.answers.proofs.FirstOf.{accepted-by}
 use Rattle.descriptions.specs.Descriptions.{topology_of}
 use Rattle.descriptions.specs.Refusals.{segment_tests, fold_tests, curve_folds_permitted}

@@ -14,7 +14,7 @@ use Rattle.descriptions.specs.Descriptions.{topology_of}
 use Rattle.descriptions.specs.KindNumbers.{kind_number, divisions_of}
 use Rattle.descriptions.specs.Refusals.{ShapePermitted}
 use Rattle.descriptions.specs.declared.description.Description.{Description}
-use Rattle.set_table.specs.Buffers.{Buffers, buffers, lengths_of}
+use Rattle.set_table.specs.Buffers.{Buffers, buffers}
 use Rattle.set_table.specs.Table.{with_entry}
 use Rattle.set_table.specs.declared.entries.Entry.{Entry}
 use Rattle.set_table.specs.declared.totals.Totals.{Totals}
