@@ -10,26 +10,35 @@ mod garbage;
 mod replay;
 mod step;
 
-ghost use Rattle.std.specs.Prelude.{◌≡◌, length};
+ghost use Rattle.std.specs.Prelude.{◌≡◌, ◌≤◌, IfOk, length};
 
 use crate::digest::VERTEX_FLOATS;
 use crate::garbage::{fill_floats, fill_words};
 use crate::replay::replay;
 use little_endian::read_words;
-use std::alloc::Global;
-use std::io::{self, BufWriter, Read, Write};
+use std::io::{self, Read};
+use streams::{Filled, read_full};
 
 const TABLE_WORDS: usize = 400;
 
 const TRIANGLE_WORDS: usize = 4800;
 
-// Reads the input to its end, and answers its whole words.
-fn read_input<R: Read>(input: &mut R, alloc: Global) -> io::Result<Vec<u32>> {
-    let mut bytes = Vec::new(alloc);
-    input.read_to_end(&mut bytes)?;
-    let mut words = vec![in alloc; 0u32; bytes.len() / 4]?;
-    read_words(&bytes, &mut words);
-    Ok(words)
+const INPUT_WORDS: usize = 16384;
+
+// Reads the input as words to the front of `words`, and answers how many whole words it has, as far
+// as there is room.
+fn read_input<R: Read>(input: &mut R, words: &mut [u32]) -> io::Result<usize>
+    requires { 16384 ≡ length words.old }
+    ensures { IfOk result (λ count. count ≤ length words.new) }
+{
+    let mut bytes = [0u8; 4 * INPUT_WORDS];
+    let count = match read_full(input, &mut bytes) {
+        Filled::Full => bytes.len(),
+        Filled::Ended(count) => count,
+        Filled::Failed(error) => return Err(error),
+    };
+    read_words(&bytes[..count], words);
+    Ok(count / 4)
 }
 
 // Fills the buffers and clears the table.
@@ -43,12 +52,18 @@ fn prepare(table: &mut [u32], vertices: &mut [f32], triangles: &mut [u32])
 }
 
 fn main(rt: HostRuntime) -> io::Result<()> {
-    let words = read_input(&mut rt.reader(), rt.alloc())?;
+    let mut words = [0u32; INPUT_WORDS];
     let mut table = [0u32; TABLE_WORDS];
     let mut vertices = [0f32; VERTEX_FLOATS];
     let mut triangles = [0u32; TRIANGLE_WORDS];
+    let count = read_input(&mut rt.stdin(), &mut words)?;
     prepare(&mut table, &mut vertices, &mut triangles);
-    let mut out = BufWriter::new(rt.alloc(), io::writer(&rt))?;
-    replay(&mut out, &words, &mut table, &mut vertices, &mut triangles)?;
-    out.flush()
+    let mut out = io::writer(&rt);
+    replay(
+        &mut out,
+        &words[..count],
+        &mut table,
+        &mut vertices,
+        &mut triangles,
+    )
 }

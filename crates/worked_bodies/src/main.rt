@@ -11,7 +11,7 @@ use crate::cases::{BODIES, CURVES, MOST_COORDINATES};
 use descriptions::{Counted, Described, Description, Verdict, of_kind};
 use float32::from_word;
 use hex_lines::{from_words, kind_name, to_words, write_triples, write_words};
-use std::io::{self, BufWriter, Write};
+use std::io::{self, Write};
 
 // Writes the counts of the body along a curve with this number of vertices, or the number of its
 // refusal.
@@ -108,9 +108,9 @@ fn write_body<W: Write>(out: &mut W, case: [u32; 7]) -> io::Result<()> {
 }
 
 fn main(rt: HostRuntime) -> io::Result<()> {
-    let mut out = BufWriter::new(rt.alloc(), io::writer(&rt))?;
+    let mut out = io::writer(&rt);
     for case in BODIES {
         write_body(&mut out, case)?;
     }
-    out.flush()
+    Ok(())
 }

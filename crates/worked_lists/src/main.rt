@@ -10,7 +10,7 @@ ghost use Rattle.std.specs.Prelude.{◌≤◌, length};
 use crate::cases::{LISTS, MOST_INDICES};
 use hex_lines::{kind_name, write_triples, write_words};
 use kinds::{Capsule, ClosedCylinder, Ribbon, Topology, Torus, Tube};
-use std::io::{self, BufWriter, Write};
+use std::io::{self, Write};
 
 // A size of the table, all of which are below 2^16.
 fn size(word: u32) -> u16 {
@@ -79,9 +79,9 @@ fn write_list<W: Write>(out: &mut W, case: [u32; 5]) -> io::Result<()> {
 }
 
 fn main(rt: HostRuntime) -> io::Result<()> {
-    let mut out = BufWriter::new(rt.alloc(), io::writer(&rt))?;
+    let mut out = io::writer(&rt);
     for case in LISTS {
         write_list(&mut out, case)?;
     }
-    out.flush()
+    Ok(())
 }

@@ -8,7 +8,7 @@ mod cases;
 use crate::cases::{FIRST_FRAMES, ROOTS, TRANSPORT_STEPS, TURNS};
 use float32::{from_word, root, to_word};
 use hex_lines::write_words;
-use std::io::{self, BufWriter, Write};
+use std::io::{self, Write};
 use vec3::{Frame, Point, turn};
 
 fn point(w: [u32; 3]) -> Point {
@@ -78,7 +78,5 @@ fn write_all<W: Write>(out: &mut W) -> io::Result<()> {
 }
 
 fn main(rt: HostRuntime) -> io::Result<()> {
-    let mut out = BufWriter::new(rt.alloc(), io::writer(&rt))?;
-    write_all(&mut out)?;
-    out.flush()
+    write_all(&mut io::writer(&rt))
 }
