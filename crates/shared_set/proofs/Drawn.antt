@@ -62,6 +62,10 @@ module _ (d : Description) (c : List Float) (body : Topology) (first : ℕ) (old
   covered true = overwrite-cover at list list old (omega arith)
   covered false = overwrite-cover at list (zeros (length list)) old (omega (arith, length-zeros (length list)))
 
+  pub scan-leaves : (finite : Bool) → left finite (part at size (overwrite at list old)) (overwrite at list old)
+      ≡ left finite list old
+  scan-leaves finite = ap (λ (l : List Float). left finite l (overwrite at list old)) stands ∙ covered finite
+
   -- the same by the body's own vertices
   same_left : (finite : Bool) → finite ≡ fine → left finite list old ≡ left finite alone old
   same_left true h =
@@ -71,9 +75,6 @@ module _ (d : Description) (c : List Float) (body : Topology) (first : ℕ) (old
       ap (λ (n : ℕ). overwrite at (zeros n) old)
       (length-drawn d c shape ∙ sym (length-vertices (twist_taken d c) d c shape))
 
-  pub scan-leaves : (finite : Bool) → finite ≡ fine
+  pub scan-leaves-alone : (finite : Bool) → finite ≡ fine
       → left finite (part at size (overwrite at list old)) (overwrite at list old) ≡ left finite alone old
-  scan-leaves finite h =
-      ap (λ (l : List Float). left finite l (overwrite at list old)) stands
-      ∙ covered finite
-      ∙ same_left finite h
+  scan-leaves-alone finite h = scan-leaves finite ∙ same_left finite h

@@ -20,7 +20,7 @@ use Rattle.descriptions.specs.Descriptions.{topology_of}
 use Rattle.descriptions.specs.Refusals.{ShapePermitted, curve_folds_permitted}
 use Rattle.descriptions.specs.declared.description.Description.{Description}
 use Rattle.bodies.specs.Bodies.{vertices_of, floats_finite, twist_taken, drawn_of}
-use Rattle.shared_set.proofs.Drawn.{scanned, scan-leaves}
+use Rattle.shared_set.proofs.Drawn.{scanned, scan-leaves-alone}
 use Rattle.shared_set.proofs.drawing.draw.Goals as goal
 
 -- The buffer after the body was written to the front of what is lent, from `first` on, and after
@@ -57,7 +57,7 @@ module _ (d : Description) (c : List Float) (body : Topology) (first : ℕ) (old
   leaves finite is e =
       e
       ∙ ap (λ (l : List Float). overwrite (3 * first) (cond finite (stretch l) (zeros (length (stretch l)))) l) holds
-      ∙ scan-leaves d c body first old shape same room finite (fine is)
+      ∙ scan-leaves-alone d c body first old shape same room finite (fine is)
 
 pub returns-then-not-zero_unless_finite-clause-answer : goal.returns-then-not-zero_unless_finite-clause-answer
 returns-then-not-zero_unless_finite-clause-answer c =
