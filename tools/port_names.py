@@ -2,14 +2,13 @@
 """Brings the definitions and lemmas of this repository to the present spelling: words in snake
 case, where the older one had humps. `sumBelow` is `sum_below`, `getD-block` is `get_or-block`.
 
-    python3 KIT/port/port.py && tools/port_names.py        (KIT is the folder of the toolchain)
-
-Run once, at the top of the repository, on what port.py left. It reads which names specs/ and
-proofs/ declare, and turns these alone, in .antt, .rt and .edit files; types, modules, functions of
-src/ and what stands between quotation marks keep their names. The lemmas of OTHERWISE get names of
-their own, most because a definition has that name. Edits (.edit) get the new names of what port.py
-turned, too, since it leaves them alone. Where two names would fall together, the script says so
-and writes nothing. It prints each name that it turned beside the new one.
+Run once, at the top of a copy of the older state, on what the toolchain's port.py left there:
+docs/PORT.md has the commands. It reads which names specs/ and proofs/ declare, and turns these
+alone, in .antt, .rt and .edit files; types, modules, functions of src/ and what stands between
+quotation marks keep their names. The lemmas of OTHERWISE get names of their own, most because a
+definition has that name. Edits (.edit) get the new names of what port.py turned, too, since it
+leaves them alone. Where two names would fall together, the script says so and writes nothing. It
+prints each name that it turned beside the new one.
 """
 
 import os
