@@ -7,7 +7,7 @@ use borrow.Author.Tests.{eq-eqb, ne_eqb}
 use lib.Dec.{eqb}
 use lib.Ieee.{Float}
 use lib.ListN.{length}
-use Rattle.laws.specs.Conjunction.{both_true}
+use Rattle.laws.proofs.Conjunction.{both_true}
 use Rattle.surface.specs.Limits.{fits}
 use Rattle.surface.proofs.Totals.{fits-bounds}
 use Rattle.kinds.specs.Kinds.{vertex_count}

@@ -3,9 +3,10 @@
 use Rattle.std.proofs.Common.{◌≡◌, refl, sym, ap, ◌∙◌, not, List, ℕ, ◌+◌, ◌-◌, ◌*◌, ◌≤◌, ◌<◌, zero-add, mod-lt}
 use Rattle.std.proofs.Common.{arith, lt-ltb, Float, length, get_or}
 use Rattle.std.specs.Float.{nan}
-use Rattle.laws.specs.Blocks.{length-blocks, get_or-blocks}
-use Rattle.laws.specs.Every.{every-cong}
-use Rattle.laws.specs.Overwrite.{overwrite, length-overwrite, get_or-within}
+use Rattle.laws.proofs.Blocks.{length-blocks, get_or-blocks}
+use Rattle.laws.proofs.Every.{every-cong}
+use Rattle.laws.specs.Overwrite.{overwrite}
+use Rattle.laws.proofs.Overwrite.{length-overwrite, get_or-within}
 use Rattle.surface.specs.Grid.{after_of}
 use Rattle.surface.specs.declared.grid.Chain.{Chain}
 use Rattle.surface.specs.declared.grid.Chain.TheVariants.{Open, Closed}

@@ -17,7 +17,7 @@ fn is_refused(v: Point) -> bool
 }
 
 // Whether none of the `count` segments is refused for its length (12).
-#[tactic(auto, using(laws::specs::Every::every_more), unfolding(crate::specs::Checks::segments_permitted))]
+#[tactic(auto, using(laws::proofs::Every::every_more), unfolding(crate::specs::Checks::segments_permitted))]
 pub fn are_segments_permitted(chain: Chain, count: u16, curve: &[f32]) -> bool
     ensures { result ≡ segments_permitted chain count curve.now }
 {
@@ -51,7 +51,7 @@ fn is_fold(c: f32) -> bool
 
 // Whether none of the first `corners` corners is a fold (13). `directions` begins with the
 // directions of the `count` segments.
-#[tactic(auto, using(laws::specs::Every::every_more), unfolding(crate::specs::Checks::no_fold_in))]
+#[tactic(auto, using(laws::proofs::Every::every_more), unfolding(crate::specs::Checks::no_fold_in))]
 pub fn has_no_fold(chain: Chain, count: u16, corners: u16, directions: &[f32]) -> bool
     ensures { result ≡ no_fold_in chain count corners directions.now }
 {

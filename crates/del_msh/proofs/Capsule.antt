@@ -9,7 +9,7 @@ use native.Mathlib.Omega.{arith}
 use borrow.Author.Tests.{lt-ltb, eq-eqb}
 use lib.Ieee.{Float, neg}
 use lib.ListN.{length, length-append}
-use Rattle.laws.specs.Overlaps.{overwrite-all}
+use Rattle.laws.proofs.Overlaps.{overwrite-all}
 use Rattle.surface.specs.declared.caps.End.TheVariants.{Bottom, Top}
 use Rattle.vec3.specs.Points.{coordinates, times, sum_of, difference_of, scaled}
 use Rattle.vec3.specs.Turns.{turn_of}

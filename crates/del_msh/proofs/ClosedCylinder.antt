@@ -7,7 +7,7 @@ use native.Mathlib.Omega.{arith}
 use borrow.Author.Tests.{lt-ltb, le-leb}
 use lib.Ieee.{Float, binary32, of_bits, add, div, neg}
 use lib.ListN.{length, length-append, length-replicate}
-use Rattle.laws.specs.Overlaps.{overwrite-all}
+use Rattle.laws.proofs.Overlaps.{overwrite-all}
 use Rattle.vec3.specs.Points.{coordinates, plus, times, over}
 use Rattle.vec3.specs.Turns.{whole}
 use Rattle.vec3.specs.declared.points.Point.{Point}

@@ -7,8 +7,10 @@ use native.Mathlib.Nat.{not-suc-le-zero, zero-add}
 use native.Mathlib.Omega.{arith}
 use lib.Ieee.{Float}
 use lib.ListN.{length, length-replicate}
-use Rattle.laws.specs.Overwrite.{overwrite, length-overwrite, get_or-within}
-use Rattle.laws.specs.Blocks.{blocks, length-blocks, get_or-blocks}
+use Rattle.laws.specs.Overwrite.{overwrite}
+use Rattle.laws.proofs.Overwrite.{length-overwrite, get_or-within}
+use Rattle.laws.specs.Blocks.{blocks}
+use Rattle.laws.proofs.Blocks.{length-blocks, get_or-blocks}
 use Rattle.surface.specs.declared.grid.Chain.{Chain}
 use Rattle.vec3.specs.Frames.{transported}
 use Rattle.vec3.specs.declared.points.Point.{Point}

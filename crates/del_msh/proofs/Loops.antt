@@ -9,8 +9,10 @@ use native.Mathlib.Nat.{eq-or-lt_of_le, le_of_suc-le-suc}
 use native.Mathlib.Omega.{arith}
 use borrow.Author.Tests.{le-leb, lt-leb, lt-ltb}
 use lib.ListN.{length}
-use Rattle.laws.specs.Overwrite.{overwrite, overwrite-none, overwrite-append, length-overwrite}
-use Rattle.laws.specs.Blocks.{blocks, length-blocks}
+use Rattle.laws.specs.Overwrite.{overwrite}
+use Rattle.laws.proofs.Overwrite.{overwrite-none, overwrite-append, length-overwrite}
+use Rattle.laws.specs.Blocks.{blocks}
+use Rattle.laws.proofs.Blocks.{length-blocks}
 use Rattle.del_msh.specs.Vectors.{changed, change, assign, turns}
 
 module _ {ℓ} {S : Type ℓ} where

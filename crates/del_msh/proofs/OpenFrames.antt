@@ -11,8 +11,8 @@ use borrow.Author.Tests.{eq-eqb, ne_eqb, lt-ltb}
 use lib.Ieee.{Float}
 use lib.ListN.{length, length-replicate}
 use Rattle.laws.specs.Overwrite.{overwrite}
-use Rattle.laws.specs.Overlaps.{overwrite-all}
-use Rattle.laws.specs.Blocks.{blocks-cong}
+use Rattle.laws.proofs.Overlaps.{overwrite-all}
+use Rattle.laws.proofs.Blocks.{blocks-cong}
 use Rattle.surface.specs.declared.grid.Chain.TheVariants.{Open}
 use Rattle.vec3.specs.Points.{sum_of, difference_of, cross_of, normalised}
 use Rattle.vec3.specs.Frames.{first_frame, transported}

@@ -5,8 +5,9 @@ use Prim.Native.Nat.{ℕ, ◌+◌, ◌*◌, ◌≤◌}
 use native.Mathlib.Omega.{arith}
 use lib.Ieee.{Float}
 use lib.ListN.{length, length-replicate}
-use Rattle.laws.specs.Overlaps.{overwrite-all}
-use Rattle.laws.specs.Blocks.{blocks, length-blocks}
+use Rattle.laws.proofs.Overlaps.{overwrite-all}
+use Rattle.laws.specs.Blocks.{blocks}
+use Rattle.laws.proofs.Blocks.{length-blocks}
 use Rattle.surface.specs.Triangles.{triangle}
 use Rattle.vec3.specs.Points.{sum_of, scaled}
 use Rattle.vec3.specs.declared.points.Point.{Point}

@@ -6,10 +6,12 @@ use native.Mathlib.Nat.{add-zero, mod-eq_of_lt, mul-div_cancel}
 use native.Mathlib.Omega.{arith}
 use borrow.Author.Tests.{eq-eqb}
 use lib.ListN.{length, length-replicate}
-use Rattle.laws.specs.Overwrite.{overwrite, overwrite-append, length-overwrite}
-use Rattle.laws.specs.Overlaps.{overwrite-all}
-use Rattle.laws.specs.Products.{row_within}
-use Rattle.laws.specs.Blocks.{blocks, length-blocks}
+use Rattle.laws.specs.Overwrite.{overwrite}
+use Rattle.laws.proofs.Overwrite.{overwrite-append, length-overwrite}
+use Rattle.laws.proofs.Overlaps.{overwrite-all}
+use Rattle.laws.proofs.Products.{row_within}
+use Rattle.laws.specs.Blocks.{blocks}
+use Rattle.laws.proofs.Blocks.{length-blocks}
 use Rattle.surface.specs.Triangles.{Triangle, triangle}
 use Rattle.kinds.specs.Lists.{next, ring, layer_quad, layers, bottom_triangles, top_triangles}
 use Rattle.kinds.specs.Lists.{closed_triangles, tube_quad, tube_triangles}

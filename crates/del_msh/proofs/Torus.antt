@@ -7,7 +7,7 @@ use native.Mathlib.Nat.{mod-eq_of_lt, mod-lt}
 use native.Mathlib.Omega.{arith}
 use lib.Ieee.{Float}
 use lib.ListN.{length, length-replicate}
-use Rattle.laws.specs.Overlaps.{overwrite-all}
+use Rattle.laws.proofs.Overlaps.{overwrite-all}
 use Rattle.laws.specs.Blocks.{blocks}
 use Rattle.surface.specs.declared.grid.Chain.TheVariants.{Closed}
 use Rattle.vec3.specs.Points.{sum_of, difference_of, scaled, cross_of, normalised}

@@ -6,7 +6,7 @@ use native.Mathlib.Nat.{mul-div_cancel}
 use native.Mathlib.Omega.{arith}
 use lib.Ieee.{Float}
 use lib.ListN.{length, length-replicate}
-use Rattle.laws.specs.Overlaps.{overwrite-all}
+use Rattle.laws.proofs.Overlaps.{overwrite-all}
 use Rattle.vec3.specs.Points.{times, sum_of, scaled}
 use Rattle.vec3.specs.Turns.{turn_of}
 use Rattle.vec3.specs.declared.points.Point.{Point}

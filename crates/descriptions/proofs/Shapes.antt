@@ -1,7 +1,7 @@
 -- What it tells of a body's numbers that 10, 20 and 21 do not refuse them. Assumes nothing.
 use Rattle.std.proofs.Common.{◌≡◌, true, ◌&&◌, List, ℕ, ◌+◌, ◌-◌, ◌*◌, ◌%◌, ◌/◌, ◌^◌, ◌≤◌, mul-le-mul, arith}
 use Rattle.std.proofs.Common.{Float, length, le-leb, eqb-true}
-use Rattle.laws.specs.Conjunction.{both_true}
+use Rattle.laws.proofs.Conjunction.{both_true}
 use Rattle.surface.specs.declared.grid.Chain.{Chain}
 use Rattle.surface.specs.declared.grid.Chain.TheVariants as chain
 use Rattle.kinds.specs.Limits.{segment_count_permitted}

@@ -12,7 +12,7 @@ use lib.Dec.{ltb, eqb}
 use lib.Ieee.{Float, nan, inf, fin, up, down, below, level, lt, eq, le}
 use lib.Ieee.Fits.{down_pos}
 use lib.Ieee.Scale.{finite}
-use Rattle.laws.specs.Conjunction.{both_true}
+use Rattle.laws.proofs.Conjunction.{both_true}
 
 either_true : (p q : Bool) → p || q ≡ true → (p ≡ true) ⊎ (q ≡ true)
 either_true true q h = inl refl

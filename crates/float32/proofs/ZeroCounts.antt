@@ -5,7 +5,7 @@ use Prim.Native.Nat.{ℕ}
 use native.Mathlib.Omega.{arith}
 use lib.Ieee.{binary32, of_bits}
 use lib.ListN.{length}
-use Rattle.laws.specs.Blocks.{length-blocks}
+use Rattle.laws.proofs.Blocks.{length-blocks}
 use Rattle.float32.specs.Zeros.{zeros}
 
 pub length-zeros : (n : ℕ) → length (zeros n) ≡ n

@@ -4,7 +4,7 @@ use mathlib.Core.Bool.{true, ◌&&◌}
 use Prim.Native.Nat.{ℕ, ◌+◌, ◌*◌, ◌≤◌}
 use borrow.Author.Tests.{leb-true}
 use lib.Dec.{leb}
-use Rattle.laws.specs.Conjunction.{both_true}
+use Rattle.laws.proofs.Conjunction.{both_true}
 use Rattle.kinds.specs.Limits.{between, segment_count_permitted, loop_permitted, divisions_permitted}
 use Rattle.kinds.specs.Limits.{longitudes_permitted, layers_permitted}
 use Rattle.kinds.specs.Kinds.{permitted}

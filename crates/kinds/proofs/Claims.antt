@@ -6,7 +6,8 @@ use Prim.Native.Nat.{ℕ, suc, ◌+◌, ◌-◌, ◌*◌, ◌≤◌}
 use native.Mathlib.Nat.{zero-add}
 use native.Mathlib.Omega.{arith}
 use lib.ListN.{length, length-append}
-use Rattle.laws.specs.Blocks.{blocks, length-blocks}
+use Rattle.laws.specs.Blocks.{blocks}
+use Rattle.laws.proofs.Blocks.{length-blocks}
 use Rattle.surface.specs.Triangles.{Triangle, triangle, shift}
 use Rattle.surface.specs.Grid.{points_of, grid_triangles}
 use Rattle.surface.specs.declared.grid.Chain.TheVariants.{Open, Closed}

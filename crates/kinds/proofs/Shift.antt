@@ -2,7 +2,8 @@
 use mathlib.Core.Path.{◌≡◌, refl, ap, ◌∙◌}
 use mathlib.Core.List.{List, [], ◌∷◌, ◌++◌}
 use Prim.Native.Nat.{ℕ, zero, suc, ◌+◌}
-use Rattle.laws.specs.Blocks.{blocks, blocks-cong}
+use Rattle.laws.specs.Blocks.{blocks}
+use Rattle.laws.proofs.Blocks.{blocks-cong}
 use Rattle.surface.specs.Triangles.{Triangle, triangle, shift}
 use Rattle.surface.specs.Quads.{quad_of}
 use Rattle.surface.specs.declared.quads.Split.{Split}

@@ -1,10 +1,5 @@
 pub mod Parts
 pub mod Overwrite
-pub mod Overlaps
-pub mod Lent
 pub mod Blocks
 pub mod Sums
-pub mod Products
-pub mod Conjunction
 pub mod Every
-pub mod Places

@@ -1,24 +1,8 @@
 -- Sums of the first n numbers: "the sum before it", "the sums of their counts" (document 01,
--- 'Refused, and through whom' and 'Frames and vertices'). Assumes nothing.
-use Rattle.std.specs.Prelude.{◌≡◌, ℕ, zero, suc, ◌+◌, ◌≤◌, ◌<◌}
-use Rattle.std.proofs.Common.{sym, ap, ◌∙◌, ⊎_elim, not-suc-le-zero, le_of_suc-le-suc, eq-or-lt_of_le, add-one, arith}
+-- 'Refused, and through whom' and 'Frames and vertices'). Definitions only.
+use Rattle.std.specs.Prelude.{ℕ, zero, suc, ◌+◌}
 
 -- f 0 + f 1 + .. + f (n - 1)
 abbrev pub sum_below : ℕ → (ℕ → ℕ) → ℕ
 sum_below zero f = 0
 sum_below (suc n) f = sum_below n f + f n
-
--- a turn of a loop that adds
-pub sum-next : (i : ℕ) (f : ℕ → ℕ) {s s' x : ℕ} → s ≡ sum_below i f → s' ≡ s + x → x ≡ f i → s' ≡ sum_below (i + 1) f
-sum-next i f before is here = is ∙ (λ j. before j + here j) ∙ ap (λ (k : ℕ). sum_below k f) (sym (add-one i))
-
--- each number ends within the sum of all
-pub sum-within : (f : ℕ → ℕ) (i n : ℕ) → i < n → sum_below i f + f i ≤ sum_below n f
-sum-within f i zero h = absurd (not-suc-le-zero h)
-sum-within f i (suc n) h =
-    ⊎_elim
-    (λ last.
-    let e : sum_below i f + f i ≡ sum_below n f + f n = λ j. sum_below (last j) f + f (last j) in
-    omega (arith, e))
-    (λ lower. omega (arith, sum-within f i n lower))
-    (eq-or-lt_of_le (le_of_suc-le-suc h))

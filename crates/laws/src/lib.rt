@@ -1,2 +1,2 @@
-// Laws only: see specs/.
+// Definitions and laws only: see specs/ and proofs/.
 #![tactic(auto)]

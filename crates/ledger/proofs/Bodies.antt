@@ -8,7 +8,7 @@ use native.Mathlib.Omega.{arith}
 use borrow.Author.Tests.{eqb-true}
 use lib.Dec.{eqb}
 use lib.ListN.{length}
-use Rattle.laws.specs.Conjunction.{both_true}
+use Rattle.laws.proofs.Conjunction.{both_true}
 use Rattle.float32.specs.Scan.{all_finite}
 use Rattle.surface.specs.Triangles.{Triangle, triangle, flatten, shift}
 use Rattle.kinds.specs.Kinds.{permitted, vertex_count, triangles_of}

@@ -10,8 +10,9 @@ use borrow.Author.Tests.{leb-true}
 use lib.Dec.{leb}
 use lib.Ieee.{Float}
 use lib.ListN.{length, drop}
-use Rattle.laws.specs.Overwrite.{overwrite, overwrite-none, length-overwrite}
-use Rattle.laws.specs.Overlaps.{overwrite-front, overwrite-cover}
+use Rattle.laws.specs.Overwrite.{overwrite}
+use Rattle.laws.proofs.Overwrite.{overwrite-none, length-overwrite}
+use Rattle.laws.proofs.Overlaps.{overwrite-front, overwrite-cover}
 use Rattle.answers.specs.Answers.{accepted, test}
 use Rattle.answers.proofs.FirstOf.{accepted-by}
 use Rattle.set_table.specs.Entries.{all_words}

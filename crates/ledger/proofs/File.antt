@@ -8,8 +8,8 @@ use lib.Ieee.{Float}
 use lib.ListN.{length}
 use Rattle.laws.specs.Parts.{part}
 use Rattle.laws.specs.Overwrite.{overwrite}
-use Rattle.laws.specs.Overlaps.{overwrite-front}
-use Rattle.laws.specs.Lent.{part-written}
+use Rattle.laws.proofs.Overlaps.{overwrite-front}
+use Rattle.laws.proofs.Lent.{part-written}
 use Rattle.answers.specs.Answers.{refused}
 use Rattle.set_table.specs.Entries.{entries_in}
 use Rattle.set_table.specs.Table.{totals_in, undamaged}

@@ -10,8 +10,9 @@ use native.Mathlib.Omega.{arith}
 use lib.Dec.{eqb}
 use lib.Ieee.{Float}
 use lib.ListN.{length}
-use Rattle.laws.specs.Overwrite.{overwrite, length-overwrite, overwrite-append}
-use Rattle.laws.specs.Overlaps.{overwrite-head, overwrite-swap}
+use Rattle.laws.specs.Overwrite.{overwrite}
+use Rattle.laws.proofs.Overwrite.{length-overwrite, overwrite-append}
+use Rattle.laws.proofs.Overlaps.{overwrite-head, overwrite-swap}
 use Rattle.float32.specs.Zeros.{zeros}
 use Rattle.surface.specs.Triangles.{flatten, shift}
 use Rattle.kinds.specs.Kinds.{vertex_count, triangle_count}

@@ -9,9 +9,10 @@ use native.Mathlib.Omega.{arith}
 use borrow.Author.Tests.{eq-eqb}
 use lib.ListN.{length}
 use Rattle.laws.specs.Parts.{part}
-use Rattle.laws.specs.Overwrite.{overwrite, length-overwrite, get_or-within, overwrite-append}
-use Rattle.laws.specs.Overlaps.{overwrite-swap}
-use Rattle.laws.specs.Lent.{part-written}
+use Rattle.laws.specs.Overwrite.{overwrite}
+use Rattle.laws.proofs.Overwrite.{length-overwrite, get_or-within, overwrite-append}
+use Rattle.laws.proofs.Overlaps.{overwrite-swap}
+use Rattle.laws.proofs.Lent.{part-written}
 use Rattle.laws.specs.Every.{every}
 use Rattle.set_table.specs.Entries.{entry_words, words_of, entry_from, table_words, entry_in, entries_in, all_words}
 use Rattle.set_table.specs.Room.{lengths}

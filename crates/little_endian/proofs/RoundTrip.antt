@@ -6,7 +6,8 @@ use native.Mathlib.Nat.{div-div-eq-div-mul}
 use native.Mathlib.Omega.{arith}
 use lib.ListN.{length, get_or}
 use lib.Seq.{take-length}
-use Rattle.laws.specs.Blocks.{blocks, length-blocks, blocks-cong, get_or-blocks, elements}
+use Rattle.laws.specs.Blocks.{blocks}
+use Rattle.laws.proofs.Blocks.{length-blocks, blocks-cong, get_or-blocks, elements}
 use Rattle.little_endian.specs.Words.{word_of, word_at, words_in, bytes_of, bytes_in}
 
 word_back : (w : ℕ) → w < 2 ^ 32 → word_of (w % 256) (w / 256 % 256) (w / 65536 % 256) (w / 16777216 % 256) ≡ w

@@ -7,7 +7,7 @@ use native.Mathlib.Omega.{arith}
 use borrow.Author.Tests.{le-leb, leb-true}
 use lib.Dec.{leb}
 use lib.ListN.{length, drop, length-drop}
-use Rattle.laws.specs.Conjunction.{both_true}
+use Rattle.laws.proofs.Conjunction.{both_true}
 use Rattle.answers.specs.Answers.{Answer}
 use Rattle.set_table.specs.Buffers.{Buffers}
 use Rattle.ledger.specs.Calls.{Call, Called, addition, answered, additions}

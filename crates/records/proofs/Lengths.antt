@@ -9,7 +9,7 @@ use borrow.Author.Tests.{le-leb, lt-leb, leb-true}
 use lib.Dec.{leb}
 use lib.ListN.{length, take, length-take}
 use lib.Seq.{length-take-le, get_or-take, take-take}
-use Rattle.laws.specs.Conjunction.{both_true}
+use Rattle.laws.proofs.Conjunction.{both_true}
 use Rattle.records.specs.Records.{head_words, most_vertices, vertices_named, head_names, length_named}
 use Rattle.records.specs.Records.{begins_with_record, record_words}
 use Rattle.records.proofs.Additions.{whole, whole-begins, record-length}

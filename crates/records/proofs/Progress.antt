@@ -8,7 +8,8 @@ use native.Mathlib.Nat.{zero-add}
 use native.Mathlib.Omega.{arith}
 use lib.ListN.{length, drop, length-append, length-drop, length-map}
 use lib.Seq.{drop-drop}
-use Rattle.laws.specs.Overwrite.{overwrite, overwrite-none, written_behind}
+use Rattle.laws.specs.Overwrite.{overwrite}
+use Rattle.laws.proofs.Overwrite.{overwrite-none, written_behind}
 use Rattle.answers.specs.Answers.{Answer, number_in}
 use Rattle.set_table.specs.Buffers.{Buffers, lengths_of}
 use Rattle.ledger.specs.Calls.{Call, Called, additions}

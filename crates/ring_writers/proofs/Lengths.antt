@@ -9,7 +9,8 @@ use borrow.Author.Tests.{eq-eqb, ne_eqb}
 use lib.Dec.{eqb}
 use lib.Ieee.{Float}
 use lib.ListN.{length, length-append}
-use Rattle.laws.specs.Blocks.{blocks, length-blocks, blocks-cong, blocks-ends}
+use Rattle.laws.specs.Blocks.{blocks}
+use Rattle.laws.proofs.Blocks.{length-blocks, blocks-cong, blocks-ends}
 use Rattle.surface.specs.declared.caps.End.{End}
 use Rattle.surface.specs.declared.caps.End.TheVariants.{Bottom, Top}
 use Rattle.vec3.specs.Points.{coordinates, plus}

@@ -6,8 +6,10 @@ use Prim.Native.Nat.{ℕ, ◌+◌, ◌*◌, ◌≤◌, ◌<◌}
 use native.Mathlib.Omega.{arith}
 use lib.Ieee.{Float, nan}
 use lib.ListN.{length, get_or}
-use Rattle.laws.specs.Overwrite.{overwrite, get_or-within}
-use Rattle.laws.specs.Blocks.{blocks, length-blocks, get_or-blocks}
+use Rattle.laws.specs.Overwrite.{overwrite}
+use Rattle.laws.proofs.Overwrite.{get_or-within}
+use Rattle.laws.specs.Blocks.{blocks}
+use Rattle.laws.proofs.Blocks.{length-blocks, get_or-blocks}
 use Rattle.vec3.specs.Points.{coordinates, thrice}
 use Rattle.vec3.specs.Turns.{pair, turn_of}
 use Rattle.vec3.specs.declared.points.Point.{Point}

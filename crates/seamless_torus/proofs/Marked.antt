@@ -9,8 +9,8 @@ use native.Mathlib.Omega.{arith}
 use lib.Ieee.{Float, binary32, nan}
 use lib.Ieee.Scale.{finite}
 use lib.ListN.{length, get_or}
-use Rattle.laws.specs.Every.{every-fails}
-use Rattle.laws.specs.Blocks.{get_or-blocks}
+use Rattle.laws.proofs.Every.{every-fails}
+use Rattle.laws.proofs.Blocks.{get_or-blocks}
 use Rattle.float32.specs.Scan.{all_finite}
 use Rattle.float32.proofs.Nans.{mul-nan, add-nan}
 use Rattle.vec3.specs.Points.{plus, sum_of, scaled}

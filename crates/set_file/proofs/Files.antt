@@ -9,10 +9,11 @@ use borrow.Author.Tests.{le-leb, lt-leb}
 use lib.Dec.{leb-suc-suc}
 use lib.Ieee.{Float, nan, binary32, to_bits}
 use lib.ListN.{length, get_or, length-append, length-map, get_or-append}
-use Rattle.laws.specs.Places.{get_or-map}
+use Rattle.laws.proofs.Places.{get_or-map}
 use Rattle.answers.specs.Answers.{Answer, Test, refused, accepted}
 use Rattle.answers.proofs.FirstOf.{accepted-by, passed-by, refused-by}
-use Rattle.laws.specs.Parts.{part, length_part, get_or-part}
+use Rattle.laws.specs.Parts.{part}
+use Rattle.laws.proofs.Parts.{length_part, get_or-part}
 use Rattle.set_table.specs.Entries.{entry_words, table_words, all_words}
 use Rattle.set_table.specs.Table.{bodies_in, totals_in, table_tests, reading_of}
 use Rattle.set_table.proofs.Words.{table-words, table-totals}

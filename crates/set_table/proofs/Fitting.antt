@@ -6,7 +6,7 @@ use Prim.Native.Nat.{ℕ, ◌+◌, ◌*◌, ◌^◌, ◌≤◌, ◌<◌}
 use native.Mathlib.Omega.{arith}
 use borrow.Author.Tests.{leb-true, eqb-false, not-true}
 use lib.Dec.{eqb, leb}
-use Rattle.laws.specs.Conjunction.{both_true}
+use Rattle.laws.proofs.Conjunction.{both_true}
 use Rattle.set_table.specs.Entries.{table_words}
 use Rattle.set_table.specs.Room.{Lengths, Fits, most_bodies, entry_permitted}
 use Rattle.set_table.specs.declared.totals.Totals.{Totals}

@@ -6,9 +6,10 @@ use Prim.Native.Nat.{ℕ, ◌+◌, ◌*◌, ◌^◌, ◌≤◌, ◌<◌}
 use borrow.Author.Tests.{le-leb, leb-true}
 use lib.Dec.{leb}
 use lib.ListN.{length}
-use Rattle.laws.specs.Conjunction.{both_true, and-exchange}
-use Rattle.laws.specs.Sums.{sum-next}
-use Rattle.laws.specs.Every.{every, every_more, every-fails}
+use Rattle.laws.proofs.Conjunction.{both_true, and-exchange}
+use Rattle.laws.proofs.Sums.{sum-next}
+use Rattle.laws.specs.Every.{every}
+use Rattle.laws.proofs.Every.{every_more, every-fails}
 use Rattle.surface.specs.Limits.{fits}
 use Rattle.answers.specs.Answers.{Answer, refused, accepted, first_of, test}
 use Rattle.answers.proofs.FirstOf.{accepted-by}

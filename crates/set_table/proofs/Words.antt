@@ -6,8 +6,9 @@ use Prim.Native.Nat.{ℕ, zero, suc, ◌+◌, ◌*◌, ◌≤◌}
 use native.Mathlib.Omega.{arith}
 use lib.ListN.{length, length-append}
 use lib.Seq.{take_all}
-use Rattle.laws.specs.Parts.{part, length_part, part-more}
-use Rattle.laws.specs.Blocks.{elements}
+use Rattle.laws.specs.Parts.{part}
+use Rattle.laws.proofs.Parts.{length_part, part-more}
+use Rattle.laws.proofs.Blocks.{elements}
 use Rattle.set_table.specs.Entries.{entry_words, words_of, table_words, entry_in, entries_in, all_words}
 use Rattle.set_table.specs.Entries.{vertex_total, triangle_total, entry_totals}
 use Rattle.set_table.specs.Table.{vertices_before, triangles_before}

@@ -9,11 +9,11 @@ use Prim.Native.Nat.{ℕ, ◌+◌, ◌*◌, ◌≤◌}
 use native.Mathlib.Omega.{arith}
 use lib.Ieee.{Float}
 use lib.ListN.{length}
-use Rattle.laws.specs.Conjunction.{both_true}
+use Rattle.laws.proofs.Conjunction.{both_true}
 use Rattle.laws.specs.Parts.{part}
 use Rattle.laws.specs.Overwrite.{overwrite}
-use Rattle.laws.specs.Overlaps.{overwrite-cover}
-use Rattle.laws.specs.Lent.{part-written}
+use Rattle.laws.proofs.Overlaps.{overwrite-cover}
+use Rattle.laws.proofs.Lent.{part-written}
 use Rattle.float32.specs.Scan.{all_finite}
 use Rattle.float32.specs.Zeros.{zeros}
 use Rattle.float32.proofs.ZeroCounts.{length-zeros}

@@ -7,7 +7,7 @@ use borrow.Author.Tests.{le-leb, lt-leb, leb-true, leb-false}
 use lib.Dec.{leb}
 use Rattle.std.proofs.Math.ListN.{get_or-append}
 use Rattle.laws.specs.Overwrite.{placed}
-use Rattle.laws.specs.Lent.{part-written}
+use Rattle.laws.proofs.Lent.{part-written}
 use Rattle.little_endian.specs.Words.{words_in}
 use Rattle.records.specs.Records.{head_words, most_vertices, vertices_named, head_names, length_named, record_words}
 use Rattle.records.proofs.Lengths.{all_there, too_few, named-bounds}

@@ -2,7 +2,8 @@
 use Rattle.std.proofs.Common.{◌≡◌, ℕ, ◌+◌, ◌*◌, ◌/◌, ◌≤◌, ◌<◌, List, [], ◌∷◌, ◌++◌, add-zero, ◌∙◌, refl, sym}
 use Rattle.std.proofs.Common.{ap, arith, length, get_or, length-append, get_or-append-add}
 use Rattle.std.proofs.Math.ListN.{get_or-append}
-use Rattle.laws.specs.Blocks.{blocks, length-blocks, blocks-cong, blocks-split}
+use Rattle.laws.specs.Blocks.{blocks}
+use Rattle.laws.proofs.Blocks.{length-blocks, blocks-cong, blocks-split}
 use Rattle.little_endian.specs.Words.{word_of, word_at, words_in}
 
 pub length-words : (bytes : List ℕ) → length (words_in bytes) ≡ length bytes / 4

@@ -5,10 +5,13 @@ use Prim.Native.Nat.{ℕ, ◌+◌, ◌-◌, ◌*◌, ◌≤◌, ◌<◌}
 use native.Mathlib.Omega.{arith}
 use borrow.Rule.Slice.PartMut.{put_same}
 use lib.ListN.{length, get_or, length-map}
-use Rattle.laws.specs.Overwrite.{overwrite, length-overwrite, overwrite-append, written_behind, get_or-before}
-use Rattle.laws.specs.Lent.{lent-part, part-written}
-use Rattle.laws.specs.Blocks.{blocks, length-blocks, blocks-cong, blocks-split, map-blocks}
-use Rattle.laws.specs.Parts.{part, length_part, get_or-part}
+use Rattle.laws.specs.Overwrite.{overwrite}
+use Rattle.laws.proofs.Overwrite.{length-overwrite, overwrite-append, written_behind, get_or-before}
+use Rattle.laws.proofs.Lent.{lent-part, part-written}
+use Rattle.laws.specs.Blocks.{blocks}
+use Rattle.laws.proofs.Blocks.{length-blocks, blocks-cong, blocks-split, map-blocks}
+use Rattle.laws.specs.Parts.{part}
+use Rattle.laws.proofs.Parts.{length_part, get_or-part}
 use Rattle.surface.specs.Raise.{raised, copy_of}
 
 -- ---- a part of the buffer

@@ -4,8 +4,10 @@ use mathlib.Core.List.{List, [], ◌∷◌, ◌++◌}
 use Prim.Native.Nat.{ℕ, zero, suc, ◌+◌}
 use native.Mathlib.Nat.{zero-add}
 use lib.ListN.{length}
-use Rattle.laws.specs.Overwrite.{overwrite, overwrite-append}
-use Rattle.laws.specs.Blocks.{blocks, all-written}
+use Rattle.laws.specs.Overwrite.{overwrite}
+use Rattle.laws.proofs.Overwrite.{overwrite-append}
+use Rattle.laws.specs.Blocks.{blocks}
+use Rattle.laws.proofs.Blocks.{all-written}
 use Rattle.surface.specs.Triangles.{Triangle, triangle, flatten}
 
 pub flatten-append : (a b : List Triangle) → flatten (a ++ b) ≡ flatten a ++ flatten b

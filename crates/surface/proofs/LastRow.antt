@@ -5,7 +5,8 @@ use mathlib.Core.List.{◌++◌}
 use Prim.Native.Nat.{ℕ, ◌+◌, ◌*◌, ◌<◌}
 use native.Mathlib.Numerals.{add-one}
 use native.Mathlib.Omega.{arith}
-use Rattle.laws.specs.Blocks.{blocks, blocks-cong}
+use Rattle.laws.specs.Blocks.{blocks}
+use Rattle.laws.proofs.Blocks.{blocks-cong}
 use Rattle.surface.specs.Grid.{after_of, points_of, straight_of, row_triangles, grid_triangles}
 use Rattle.surface.specs.declared.quads.Split.{Split}
 use Rattle.surface.specs.declared.grid.Chain.{Chain}

@@ -5,7 +5,7 @@ use mathlib.Core.Bool.{true, false}
 use mathlib.Core.List.{List, [], ◌∷◌, ◌++◌}
 use Prim.Native.Nat.{ℕ, ◌+◌, ◌*◌}
 use lib.ListN.{length}
-use Rattle.laws.specs.Blocks.{length-blocks}
+use Rattle.laws.proofs.Blocks.{length-blocks}
 use Rattle.surface.specs.Triangles.{Triangle, flatten, rows, row_of, rows_of}
 use Rattle.surface.specs.Quads.{quad_of}
 use Rattle.surface.specs.Grid.{after_of, points_of, row_triangles, grid_triangles}

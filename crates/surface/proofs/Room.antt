@@ -6,8 +6,8 @@ use Prim.Native.Nat.{ℕ, ◌+◌, ◌*◌, ◌^◌, ◌≤◌, ◌<◌}
 use native.Mathlib.Omega.{arith}
 use borrow.Author.Tests.{leb-true}
 use lib.Dec.{leb}
-use Rattle.laws.specs.Products.{row_within}
-use Rattle.laws.specs.Conjunction.{both_true}
+use Rattle.laws.proofs.Products.{row_within}
+use Rattle.laws.proofs.Conjunction.{both_true}
 use Rattle.surface.specs.Grid.{points_of}
 use Rattle.surface.specs.Limits.{fits}
 use Rattle.surface.specs.Whole.{chain_of, is_capped, ring_count, ring_size, grid_size, GridFits}

@@ -6,9 +6,10 @@ use native.Mathlib.Nat.{mul-le-mul_right}
 use native.Mathlib.Omega.{arith}
 use lib.ListN.{length}
 use Rattle.laws.specs.Overwrite.{overwrite}
-use Rattle.laws.specs.Overlaps.{overwrite-cover}
-use Rattle.laws.specs.Blocks.{blocks, blocks-cong, map-blocks}
-use Rattle.laws.specs.Lent.{part-written}
+use Rattle.laws.proofs.Overlaps.{overwrite-cover}
+use Rattle.laws.specs.Blocks.{blocks}
+use Rattle.laws.proofs.Blocks.{blocks-cong, map-blocks}
+use Rattle.laws.proofs.Lent.{part-written}
 use Rattle.laws.specs.Parts.{part}
 use Rattle.surface.specs.Triangles.{flatten}
 use Rattle.surface.specs.Quads.{quad_of}

@@ -4,7 +4,7 @@ use mathlib.Core.Bool.{true}
 use Prim.Native.Nat.{ℕ, ◌*◌, ◌^◌, ◌≤◌}
 use borrow.Author.Tests.{leb-true}
 use lib.Dec.{leb}
-use Rattle.laws.specs.Conjunction.{both_true}
+use Rattle.laws.proofs.Conjunction.{both_true}
 use Rattle.surface.specs.Limits.{fits}
 
 pub fits-bounds : (total room : ℕ) → fits total room ≡ true → (total ≤ 2 ^ 28) × (3 * total ≤ room)

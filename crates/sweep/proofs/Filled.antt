@@ -11,7 +11,8 @@ use borrow.Author.Tests.{leb-true, leb-false}
 use lib.Dec.{leb}
 use lib.ListN.{length, get_or, set, take, drop, length-set, take-append-drop}
 use lib.Seq.{length-take-le, take-suc, take_all}
-use Rattle.laws.specs.Overwrite.{overwrite, overwrite-none, written_behind, overwrite-past, one_store}
+use Rattle.laws.specs.Overwrite.{overwrite}
+use Rattle.laws.proofs.Overwrite.{overwrite-none, written_behind, overwrite-past, one_store}
 use Rattle.answers.specs.Answers.{Answer, refused, accepted, first_of, test}
 use Rattle.answers.proofs.FirstOf.{accepted-by}
 use Rattle.set_table.specs.Table.{totals_in, undamaged}

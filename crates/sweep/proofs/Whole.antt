@@ -11,8 +11,8 @@ use lib.Ieee.{binary32, to_bits}
 use lib.ListN.{length, get_or, take, drop, length-append, length-drop, length-map, length-take}
 use Rattle.laws.specs.Parts.{part}
 use Rattle.laws.specs.Overwrite.{overwrite, placed}
-use Rattle.laws.specs.Blocks.{length-blocks}
-use Rattle.laws.specs.Lent.{part-written}
+use Rattle.laws.proofs.Blocks.{length-blocks}
+use Rattle.laws.proofs.Lent.{part-written}
 use Rattle.set_table.specs.Entries.{entry_words, all_words, entry_totals}
 use Rattle.set_table.specs.Table.{totals_in, undamaged}
 use Rattle.set_table.specs.Buffers.{Buffers}

@@ -5,7 +5,8 @@ use Prim.Native.Nat.{ℕ, ◌+◌, ◌-◌, ◌*◌, ◌≤◌}
 use native.Mathlib.Omega.{arith}
 use lib.Ieee.{Float}
 use lib.ListN.{length, length-append}
-use Rattle.laws.specs.Blocks.{blocks, length-blocks}
+use Rattle.laws.specs.Blocks.{blocks}
+use Rattle.laws.proofs.Blocks.{length-blocks}
 use Rattle.surface.specs.declared.caps.End.TheVariants.{Bottom, Top}
 use Rattle.vec3.specs.declared.frames.Frame.{Frame}
 use Rattle.rings.specs.Vertices.{tube_vertex, torus_vertex}

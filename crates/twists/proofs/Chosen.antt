@@ -9,8 +9,9 @@ use borrow.Author.Tests.{leb-true, leb-false, le-leb, lt-leb}
 use lib.Dec.{leb}
 use lib.Ieee.{Float, le}
 use lib.Ieee.Scale.{finite}
-use Rattle.laws.specs.Conjunction.{both_true}
-use Rattle.laws.specs.Every.{every, every-each, each-every}
+use Rattle.laws.proofs.Conjunction.{both_true}
+use Rattle.laws.specs.Every.{every}
+use Rattle.laws.proofs.Every.{every-each, each-every}
 use Rattle.twists.specs.Twists.{forward, backwards, is_twist, score_of, Best, twist_at, scores_finite}
 use Rattle.twists.specs.Chosen.{leader_at, chosen_twist}
 use Rattle.twists.specs.declared.twist.Twist.{Twist}

@@ -7,7 +7,8 @@ use native.Mathlib.Nat.{add-zero, add-suc}
 use lib.Ieee.{Float, nan}
 use lib.Ieee.Scale.{finite}
 use lib.ListN.{length, get_or}
-use Rattle.laws.specs.Every.{every, every-cong}
+use Rattle.laws.specs.Every.{every}
+use Rattle.laws.proofs.Every.{every-cong}
 use Rattle.float32.specs.Scan.{all_finite}
 use Rattle.twists.specs.Twists.{score_of, twist_at}
 use Rattle.twists.specs.Scores.{ScoresIn}

@@ -10,7 +10,7 @@ use native.Mathlib.Omega.{arith}
 use borrow.Author.Tests.{not-true}
 use lib.Ieee.{Float, lt, le}
 use lib.Ieee.Scale.{finite}
-use Rattle.laws.specs.Conjunction.{both_true}
+use Rattle.laws.proofs.Conjunction.{both_true}
 use Rattle.laws.specs.Every.{every}
 use Rattle.float32.proofs.Order.{lt-le, not-lt-le, le_refl, le_trans}
 use Rattle.twists.specs.Leaders.{led_once, leads}

@@ -10,7 +10,7 @@ use borrow.Author.Tests.{lt-ltb}
 use lib.Dec.{eqb}
 use lib.Ieee.{Float, nan, neg, binary32}
 use lib.ListN.{get_or}
-use Rattle.laws.specs.Blocks.{blocks-cong}
+use Rattle.laws.proofs.Blocks.{blocks-cong}
 use Rattle.float32.proofs.Signs.{mul-neg}
 use Rattle.vec3.specs.Points.{plus, times}
 use Rattle.vec3.specs.Turns.{fraction, part_of, in_octant, direction_of, turn_of}

@@ -6,9 +6,11 @@ use native.Mathlib.Nat.{zero-add}
 use native.Mathlib.Omega.{arith}
 use lib.Ieee.{Float, nan}
 use lib.ListN.{length, get_or, set}
-use Rattle.laws.specs.Overwrite.{overwrite, one_store, get_or-within}
-use Rattle.laws.specs.Overlaps.{overwrite-all}
-use Rattle.laws.specs.Blocks.{blocks, length-blocks, get_or-blocks, one_more, all-written}
+use Rattle.laws.specs.Overwrite.{overwrite}
+use Rattle.laws.proofs.Overwrite.{one_store, get_or-within}
+use Rattle.laws.proofs.Overlaps.{overwrite-all}
+use Rattle.laws.specs.Blocks.{blocks}
+use Rattle.laws.proofs.Blocks.{length-blocks, get_or-blocks, one_more, all-written}
 
 -- entry k of the table of f, and the list of entries 0 to n - 1
 abbrev entry : (ℕ → Float) → ℕ → List Float

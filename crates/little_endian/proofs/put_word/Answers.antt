@@ -1,6 +1,6 @@
 -- Four stores are one write of the word's bytes.
 use Rattle.std.proofs.Math.Numerals.{towards_suc}
-use Rattle.laws.specs.Overwrite.{stores}
+use Rattle.laws.proofs.Overwrite.{stores}
 use Rattle.little_endian.specs.Words.{bytes_of}
 use Rattle.little_endian.proofs.put_word.Goals as goal
 

@@ -1,7 +1,7 @@
 -- Each turn of the loop stores one word behind the last.
 use Rattle.std.proofs.Common.{refl, sym, ap, ℕ, [], ◌∷◌, arith}
-use Rattle.laws.specs.Overwrite.{overwrite-none, one_store}
-use Rattle.laws.specs.Blocks.{one_more}
+use Rattle.laws.proofs.Overwrite.{overwrite-none, one_store}
+use Rattle.laws.proofs.Blocks.{one_more}
 use Rattle.little_endian.proofs.read_words.Invariants.{here}
 use Rattle.little_endian.proofs.read_words.Goals as goal
 

@@ -1,7 +1,7 @@
 -- Each turn of the loop puts the bytes of one word behind those of the last.
 use Rattle.std.proofs.Common.{refl, sym, arith}
-use Rattle.laws.specs.Overwrite.{overwrite-none}
-use Rattle.laws.specs.Blocks.{one_more}
+use Rattle.laws.proofs.Overwrite.{overwrite-none}
+use Rattle.laws.proofs.Blocks.{one_more}
 use Rattle.little_endian.proofs.write_words.Invariants.{here}
 use Rattle.little_endian.proofs.write_words.Goals as goal
 

@@ -1,7 +1,7 @@
 -- Three indices a triangle are within the buffer, since a list is written only where there is
 -- room for it. Assumes nothing.
 use Rattle.std.proofs.Common.{◌≡◌, ℕ, ◌+◌, ◌*◌, ◌^◌, ◌≤◌, Bool, true, ◌&&◌, sym, ◌∙◌, arith, leb, leb-true}
-use Rattle.laws.specs.Conjunction.{both_true}
+use Rattle.laws.proofs.Conjunction.{both_true}
 use Rattle.surface.specs.Limits.{fits}
 use Rattle.kinds.specs.Kinds.{permitted, vertex_count, triangle_count, writable}
 use Rattle.kinds.specs.declared.topology.Topology.{Topology}

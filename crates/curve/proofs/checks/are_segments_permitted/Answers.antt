@@ -1,6 +1,6 @@
 -- A refused segment that the loop meets is one that the answer tells of. Assumes nothing.
 use Rattle.std.proofs.Common.{◌≡◌, true, not, sym, ap}
-use Rattle.laws.specs.Every.{every-fails}
+use Rattle.laws.proofs.Every.{every-fails}
 use Rattle.curve.specs.Segments.{segment_of}
 use Rattle.curve.specs.Checks.{segment_refused, segments_permitted}
 use Rattle.curve.proofs.checks.are_segments_permitted.Invariants.{permitted_at}

@@ -1,6 +1,6 @@
 -- A fold that the loop meets is one that the answer tells of. Assumes nothing.
 use Rattle.std.proofs.Common.{◌≡◌, true, not, sym, ap}
-use Rattle.laws.specs.Every.{every-fails}
+use Rattle.laws.proofs.Every.{every-fails}
 use Rattle.curve.specs.Checks.{is_fold, cosine_in, no_fold_in}
 use Rattle.curve.proofs.checks.has_no_fold.Invariants.{permitted_at}
 use Rattle.curve.proofs.checks.has_no_fold.Goals as goal

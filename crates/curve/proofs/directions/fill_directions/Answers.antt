@@ -1,7 +1,7 @@
 -- Each turn of the loop writes one direction after the last. Assumes nothing.
 use Rattle.std.proofs.Common.{◌≡◌, refl, sym, ap, arith, length-set}
-use Rattle.laws.specs.Overwrite.{overwrite-none, three-stores}
-use Rattle.laws.specs.Blocks.{one_more, all-written}
+use Rattle.laws.proofs.Overwrite.{overwrite-none, three-stores}
+use Rattle.laws.proofs.Blocks.{one_more, all-written}
 use Rattle.vec3.specs.Points.{coordinates}
 use Rattle.curve.specs.Segments.{directions_of}
 use Rattle.curve.proofs.directions.fill_directions.Invariants.{direction_at}

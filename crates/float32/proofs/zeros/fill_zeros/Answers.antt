@@ -2,9 +2,9 @@
 use Rattle.std.proofs.Common.{◌≡◌, refl, sym, ◌∙◌, length, arith}
 use Rattle.std.specs.Float.{binary32}
 use Rattle.std.specs.Float.Ieee.{of_bits}
-use Rattle.laws.specs.Overwrite.{overwrite-none, one_store}
-use Rattle.laws.specs.Overlaps.{overwrite-all}
-use Rattle.laws.specs.Blocks.{one_more, all-written}
+use Rattle.laws.proofs.Overwrite.{overwrite-none, one_store}
+use Rattle.laws.proofs.Overlaps.{overwrite-all}
+use Rattle.laws.proofs.Blocks.{one_more, all-written}
 use Rattle.float32.specs.Zeros.{zeros}
 use Rattle.float32.proofs.ZeroCounts.{length-zeros}
 use Rattle.float32.proofs.zeros.fill_zeros.Invariants.{zero}

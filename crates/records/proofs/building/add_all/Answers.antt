@@ -6,7 +6,7 @@ use Prim.Native.Nat.{ℕ, ◌+◌, ◌≤◌}
 use native.Mathlib.Omega.{arith}
 use borrow.Author.Rules.{part_to_end}
 use lib.ListN.{length, drop, length-drop}
-use Rattle.laws.specs.Overwrite.{length-overwrite}
+use Rattle.laws.proofs.Overwrite.{length-overwrite}
 use Rattle.set_table.specs.Room.{Lengths, lengths}
 use Rattle.set_table.specs.Buffers.{buffers}
 use Rattle.ledger.specs.Calls.{additions}

@@ -3,7 +3,8 @@ use mathlib.Core.Path.{◌≡◌, refl, sym, ap, ◌∙◌}
 use mathlib.Core.List.{[], ◌∷◌}
 use Prim.Native.Nat.{ℕ}
 use native.Mathlib.Omega.{arith}
-use Rattle.laws.specs.Overwrite.{overwrite, overwrite-none, overwrite-past, one_store}
+use Rattle.laws.specs.Overwrite.{overwrite}
+use Rattle.laws.proofs.Overwrite.{overwrite-none, overwrite-past, one_store}
 use Rattle.answers.specs.Answers.{number_in, outcome_answer}
 use Rattle.records.proofs.building.put_answer.Goals as goal
 use Rattle.records.proofs.building.put_answer.Goals.{then-i-answers, else-i-answers}

@@ -7,7 +7,7 @@ use native.Mathlib.Omega.{arith}
 use lib.Ieee.{Float, binary32, of_bits}
 use lib.ListN.{length, take, length-map}
 use Rattle.laws.specs.Overwrite.{overwrite}
-use Rattle.laws.specs.Lent.{part-written}
+use Rattle.laws.proofs.Lent.{part-written}
 use Rattle.set_table.specs.Buffers.{buffers}
 use Rattle.shared_set.specs.Additions.{taken}
 use Rattle.shared_set.specs.Set.{added}

@@ -4,8 +4,9 @@ use mathlib.Core.List.{List, [], ◌∷◌}
 use native.Mathlib.Omega.{arith}
 use lib.Ieee.{Float, binary32, of_bits}
 use lib.ListN.{length, length-set}
-use Rattle.laws.specs.Overwrite.{overwrite, overwrite-none, one_store}
-use Rattle.laws.specs.Blocks.{one_more, all-written, blocks-map}
+use Rattle.laws.specs.Overwrite.{overwrite}
+use Rattle.laws.proofs.Overwrite.{overwrite-none, one_store}
+use Rattle.laws.proofs.Blocks.{one_more, all-written, blocks-map}
 use Rattle.records.proofs.first.fill_floats.Invariants.{float}
 use Rattle.records.proofs.first.fill_floats.Goals as goal
 

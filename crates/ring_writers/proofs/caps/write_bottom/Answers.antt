@@ -1,8 +1,9 @@
 -- The pole, followed by the rings. Assumes nothing.
 use mathlib.Core.Path.{refl, ap, ◌∙◌}
 use native.Mathlib.Omega.{arith}
-use Rattle.laws.specs.Overwrite.{overwrite, written_behind}
-use Rattle.laws.specs.Lent.{length_rest, lent-from}
+use Rattle.laws.specs.Overwrite.{overwrite}
+use Rattle.laws.proofs.Overwrite.{written_behind}
+use Rattle.laws.proofs.Lent.{length_rest, lent-from}
 use Rattle.surface.specs.declared.caps.End.TheVariants.{Bottom}
 use Rattle.vec3.specs.Points.{coordinates, difference_of}
 use Rattle.vec3.specs.declared.points.Point.{Point}

@@ -2,7 +2,8 @@
 use mathlib.Core.Path.{sym, ap, ◌∙◌}
 use Prim.Native.Nat.{◌*◌}
 use native.Mathlib.Nat.{zero-add}
-use Rattle.laws.specs.Overwrite.{overwrite, written_behind}
+use Rattle.laws.specs.Overwrite.{overwrite}
+use Rattle.laws.proofs.Overwrite.{written_behind}
 use Rattle.surface.specs.declared.caps.End.TheVariants.{Top}
 use Rattle.vec3.specs.Points.{coordinates, sum_of}
 use Rattle.rings.specs.Vertices.{top_pole}

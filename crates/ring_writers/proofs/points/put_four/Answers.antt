@@ -1,7 +1,7 @@
 -- Four points, one after the other, are one write. Assumes nothing.
 use mathlib.Core.Path.{refl}
 use mathlib.Core.List.{◌++◌}
-use Rattle.laws.specs.Overwrite.{written_behind}
+use Rattle.laws.proofs.Overwrite.{written_behind}
 use Rattle.vec3.specs.Points.{coordinates}
 use Rattle.ring_writers.proofs.points.put_four.Goals as goal
 

@@ -1,5 +1,5 @@
 -- Three stores are one write of the coordinates. Assumes nothing.
-use Rattle.laws.specs.Overwrite.{three-stores}
+use Rattle.laws.proofs.Overwrite.{three-stores}
 use Rattle.ring_writers.proofs.points.put_point.Goals as goal
 
 pub returns : goal.returns

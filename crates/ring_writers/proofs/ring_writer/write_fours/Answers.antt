@@ -1,8 +1,8 @@
 -- Each turn of the loop writes four vertices after those before. Assumes nothing.
 use mathlib.Core.Path.{refl, sym, ap, ◌∙◌}
 use native.Mathlib.Omega.{arith}
-use Rattle.laws.specs.Overwrite.{overwrite-none}
-use Rattle.laws.specs.Blocks.{some_more}
+use Rattle.laws.proofs.Overwrite.{overwrite-none}
+use Rattle.laws.proofs.Blocks.{some_more}
 use Rattle.rings.specs.Vertices.{vertex_on}
 use Rattle.rings.specs.Rings.{in_order, ring_vertex, four_of}
 use Rattle.ring_writers.specs.Tables.{four_coordinates}

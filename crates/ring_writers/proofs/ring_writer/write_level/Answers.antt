@@ -1,8 +1,8 @@
 -- Each turn of the loop writes one vertex after the one before. Assumes nothing.
 use mathlib.Core.Path.{◌≡◌, refl, sym, ap, ◌∙◌}
 use native.Mathlib.Omega.{arith}
-use Rattle.laws.specs.Overwrite.{overwrite-none}
-use Rattle.laws.specs.Blocks.{one_more, all-written}
+use Rattle.laws.proofs.Overwrite.{overwrite-none}
+use Rattle.laws.proofs.Blocks.{one_more, all-written}
 use Rattle.vec3.specs.Points.{coordinates}
 use Rattle.rings.specs.Vertices.{vertex_on, level_at}
 use Rattle.ring_writers.proofs.Tables.{direction-at}

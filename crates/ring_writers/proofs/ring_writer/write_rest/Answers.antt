@@ -2,8 +2,10 @@
 use mathlib.Core.Path.{◌≡◌, refl, sym, ap, ◌∙◌}
 use Prim.Native.Nat.{ℕ, ◌+◌, ◌*◌, ◌-◌}
 use native.Mathlib.Omega.{arith}
-use Rattle.laws.specs.Overwrite.{overwrite, overwrite-none}
-use Rattle.laws.specs.Blocks.{blocks, one_more, all-written}
+use Rattle.laws.specs.Overwrite.{overwrite}
+use Rattle.laws.proofs.Overwrite.{overwrite-none}
+use Rattle.laws.specs.Blocks.{blocks}
+use Rattle.laws.proofs.Blocks.{one_more, all-written}
 use Rattle.vec3.specs.Points.{coordinates}
 use Rattle.rings.specs.Vertices.{vertex_on}
 use Rattle.rings.specs.Rings.{in_order, ring_vertex}

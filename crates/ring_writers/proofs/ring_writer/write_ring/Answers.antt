@@ -2,7 +2,7 @@
 use mathlib.Core.Path.{◌≡◌, refl}
 use Prim.Native.Nat.{◌+◌, ◌-◌}
 use native.Mathlib.Omega.{arith}
-use Rattle.laws.specs.Blocks.{some_more, all-written}
+use Rattle.laws.proofs.Blocks.{some_more, all-written}
 use Rattle.rings.specs.Vertices.{vertex_on}
 use Rattle.rings.specs.Rings.{ring_vertex}
 use Rattle.ring_writers.proofs.ring_writer.write_ring.Goals as goal

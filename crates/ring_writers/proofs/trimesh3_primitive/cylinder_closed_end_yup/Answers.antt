@@ -4,8 +4,9 @@ use mathlib.Core.List.{List, ◌++◌}
 use Prim.Native.Nat.{◌+◌}
 use native.Mathlib.Omega.{arith}
 use lib.Ieee.{Float}
-use Rattle.laws.specs.Overwrite.{overwrite, written_behind}
-use Rattle.laws.specs.Lent.{length_rest, lent-from}
+use Rattle.laws.specs.Overwrite.{overwrite}
+use Rattle.laws.proofs.Overwrite.{written_behind}
+use Rattle.laws.proofs.Lent.{length_rest, lent-from}
 use Rattle.vec3.specs.Points.{coordinates, plus}
 use Rattle.rings.specs.Vertices.{level_vertex, pole}
 use Rattle.ring_writers.specs.ClosedCylinder.{cylinder_rings}

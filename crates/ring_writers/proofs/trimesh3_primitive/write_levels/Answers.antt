@@ -3,9 +3,9 @@ use mathlib.Core.Path.{◌≡◌, refl, sym}
 use Prim.Native.Nat.{◌+◌, ◌*◌, ◌≤◌}
 use native.Mathlib.Omega.{arith}
 use lib.ListN.{length}
-use Rattle.laws.specs.Overwrite.{overwrite-none}
-use Rattle.laws.specs.Blocks.{one_more, all-written}
-use Rattle.laws.specs.Products.{next_row, row_within}
+use Rattle.laws.proofs.Overwrite.{overwrite-none}
+use Rattle.laws.proofs.Blocks.{one_more, all-written}
+use Rattle.laws.proofs.Products.{next_row, row_within}
 use Rattle.vec3.specs.Turns.{whole}
 use Rattle.rings.specs.Vertices.{level_vertex}
 use Rattle.ring_writers.proofs.Lengths.{length-ring}

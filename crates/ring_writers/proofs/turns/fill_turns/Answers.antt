@@ -6,9 +6,11 @@ use Prim.Native.Nat.{ℕ, ◌+◌, ◌*◌, ◌<◌}
 use native.Mathlib.Omega.{arith}
 use lib.Ieee.{Float}
 use lib.ListN.{length}
-use Rattle.laws.specs.Overwrite.{overwrite, overwrite-none, length-overwrite}
-use Rattle.laws.specs.Overlaps.{overwrite-swap}
-use Rattle.laws.specs.Blocks.{blocks, one_more, length-blocks}
+use Rattle.laws.specs.Overwrite.{overwrite}
+use Rattle.laws.proofs.Overwrite.{overwrite-none, length-overwrite}
+use Rattle.laws.proofs.Overlaps.{overwrite-swap}
+use Rattle.laws.specs.Blocks.{blocks}
+use Rattle.laws.proofs.Blocks.{one_more, length-blocks}
 use Rattle.vec3.specs.Points.{coordinates, thrice}
 use Rattle.vec3.specs.declared.turns.Direction.{Direction}
 use Rattle.curve.specs.Segments.{point_at}

@@ -4,9 +4,9 @@ use mathlib.Core.Path.{◌≡◌, sym, ap, ◌∙◌}
 use Prim.Native.Nat.{◌+◌, ◌*◌, ◌≤◌}
 use native.Mathlib.Omega.{arith}
 use lib.ListN.{length}
-use Rattle.laws.specs.Overwrite.{overwrite-none}
-use Rattle.laws.specs.Blocks.{one_more, all-written}
-use Rattle.laws.specs.Products.{next_row, row_within}
+use Rattle.laws.proofs.Overwrite.{overwrite-none}
+use Rattle.laws.proofs.Blocks.{one_more, all-written}
+use Rattle.laws.proofs.Products.{next_row, row_within}
 use Rattle.surface.specs.declared.grid.Chain.TheVariants.{Closed}
 use Rattle.curve.specs.Segments.{point_at, segment_direction}
 use Rattle.rings.specs.Axes.{axes_at}

@@ -3,7 +3,8 @@ use mathlib.Core.Path.{◌≡◌, refl, sym, ap, ◌∙◌}
 use Prim.Native.Nat.{ℕ, ◌+◌, ◌<◌}
 use native.Mathlib.Omega.{arith}
 use lib.ListN.{get_or}
-use Rattle.laws.specs.Parts.{part, get_or-part}
+use Rattle.laws.specs.Parts.{part}
+use Rattle.laws.proofs.Parts.{get_or-part}
 use Rattle.set_table.specs.Entries.{entry_words, table_words}
 use Rattle.set_table.proofs.entries.read_entry.Goals as goal
 

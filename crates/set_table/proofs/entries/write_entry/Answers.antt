@@ -5,7 +5,8 @@ use Prim.Native.Nat.{ℕ, ◌+◌}
 use native.Mathlib.Numerals.{towards_suc}
 use native.Mathlib.Omega.{arith}
 use lib.ListN.{set, length-set}
-use Rattle.laws.specs.Overwrite.{overwrite, stores, one_store}
+use Rattle.laws.specs.Overwrite.{overwrite}
+use Rattle.laws.proofs.Overwrite.{stores, one_store}
 use Rattle.set_table.specs.Entries.{words_of, table_words}
 use Rattle.set_table.specs.declared.entries.Entry.{Entry}
 use Rattle.set_table.proofs.entries.write_entry.Goals as goal

@@ -3,7 +3,8 @@ use mathlib.Core.Path.{◌≡◌, sym, ◌∙◌}
 use mathlib.Core.List.{List, [], ◌∷◌, append-nil}
 use Prim.Native.Nat.{ℕ}
 use native.Mathlib.Omega.{arith}
-use Rattle.laws.specs.Overwrite.{overwrite, one_store, overwrite-past}
+use Rattle.laws.specs.Overwrite.{overwrite}
+use Rattle.laws.proofs.Overwrite.{one_store, overwrite-past}
 use Rattle.shared_set.specs.Set.{cleared}
 use Rattle.shared_set.proofs.clearing.clear.Goals as goal
 

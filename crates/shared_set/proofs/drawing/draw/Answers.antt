@@ -9,7 +9,7 @@ use lib.Ieee.{Float}
 use lib.ListN.{length}
 use Rattle.laws.specs.Parts.{part}
 use Rattle.laws.specs.Overwrite.{overwrite, placed}
-use Rattle.laws.specs.Lent.{lent-from}
+use Rattle.laws.proofs.Lent.{lent-from}
 use Rattle.float32.specs.Scan.{all_finite}
 use Rattle.float32.specs.Zeros.{zeros}
 use Rattle.kinds.specs.Kinds.{vertex_count}

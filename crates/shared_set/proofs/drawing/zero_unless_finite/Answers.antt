@@ -6,9 +6,10 @@ use native.Mathlib.Omega.{arith}
 use borrow.Rule.Slice.PartMut.{put_mid, put_same}
 use lib.Ieee.{Float}
 use lib.ListN.{length}
-use Rattle.laws.specs.Parts.{part, length_part}
+use Rattle.laws.specs.Parts.{part}
+use Rattle.laws.proofs.Parts.{length_part}
 use Rattle.laws.specs.Overwrite.{overwrite}
-use Rattle.laws.specs.Lent.{lent-part}
+use Rattle.laws.proofs.Lent.{lent-part}
 use Rattle.float32.specs.Zeros.{zeros}
 use Rattle.float32.proofs.ZeroCounts.{length-zeros}
 use Rattle.kinds.specs.Kinds.{vertex_count}

@@ -1,6 +1,6 @@
 -- The triangles go to the front of the part that is lent. Assumes nothing.
 use Prim.Native.Nat.{◌*◌}
-use Rattle.laws.specs.Lent.{lent-from}
+use Rattle.laws.proofs.Lent.{lent-from}
 use Rattle.surface.specs.Triangles.{flatten, shift}
 use Rattle.kinds.specs.Kinds.{triangles_of}
 use Rattle.shared_set.proofs.placing.place.Goals as goal

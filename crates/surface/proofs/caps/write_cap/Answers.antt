@@ -1,8 +1,8 @@
 -- Each turn of the loop writes one triangle after the last. Assumes nothing.
 use mathlib.Core.Path.{◌≡◌, refl, sym, ◌∙◌}
 use native.Mathlib.Omega.{arith}
-use Rattle.laws.specs.Overwrite.{overwrite-none}
-use Rattle.laws.specs.Blocks.{one_more}
+use Rattle.laws.proofs.Overwrite.{overwrite-none}
+use Rattle.laws.proofs.Blocks.{one_more}
 use Rattle.surface.proofs.Flatten.{numbers, blocks-written}
 use Rattle.surface.proofs.Pieces.{cap_at, cap-written, length-cap_at}
 use Rattle.surface.proofs.caps.write_cap.Goals as goal

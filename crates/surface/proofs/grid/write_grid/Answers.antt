@@ -6,8 +6,9 @@ use Prim.Native.Nat.{ℕ, ◌+◌, ◌*◌, ◌^◌, ◌≤◌, ◌<◌}
 use native.Mathlib.Nat.{mul_assoc, mul-le-mul_right}
 use native.Mathlib.Omega.{arith}
 use lib.ListN.{length}
-use Rattle.laws.specs.Overwrite.{overwrite, written_behind}
-use Rattle.laws.specs.Products.{row_within}
+use Rattle.laws.specs.Overwrite.{overwrite}
+use Rattle.laws.proofs.Overwrite.{written_behind}
+use Rattle.laws.proofs.Products.{row_within}
 use Rattle.surface.specs.Triangles.{flatten}
 use Rattle.surface.specs.Grid.{straight_of, row_triangles, grid_triangles}
 use Rattle.surface.specs.Whole.{chain_of, ring_count, ring_size}

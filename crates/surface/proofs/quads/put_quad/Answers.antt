@@ -3,7 +3,8 @@ use mathlib.Core.Path.{◌∙◌, ap}
 use mathlib.Core.List.{List, []}
 use Prim.Native.Nat.{ℕ, ◌+◌}
 use lib.ListN.{get_or}
-use Rattle.laws.specs.Overwrite.{overwrite, overwrite-append}
+use Rattle.laws.specs.Overwrite.{overwrite}
+use Rattle.laws.proofs.Overwrite.{overwrite-append}
 use Rattle.surface.specs.Triangles.{row_of}
 use Rattle.surface.proofs.quads.put_quad.Goals as goal
 

@@ -1,6 +1,6 @@
 -- Three stores are one write of the row. Assumes nothing.
 use lib.ListN.{get_or}
-use Rattle.laws.specs.Overwrite.{three-stores}
+use Rattle.laws.proofs.Overwrite.{three-stores}
 use Rattle.surface.proofs.quads.put_triangle.Goals as goal
 
 pub returns : goal.returns

@@ -4,10 +4,13 @@ use mathlib.Core.List.{List, [], ◌∷◌}
 use Prim.Native.Nat.{ℕ, ◌+◌, ◌-◌, ◌^◌, ◌<◌}
 use native.Mathlib.Omega.{arith}
 use lib.ListN.{length, get_or, length-set, length-map}
-use Rattle.laws.specs.Places.{get_or-map}
-use Rattle.laws.specs.Overwrite.{overwrite, overwrite-none, one_store}
-use Rattle.laws.specs.Blocks.{blocks, blocks-map, one_more, all-written}
-use Rattle.laws.specs.Parts.{part, length_part}
+use Rattle.laws.proofs.Places.{get_or-map}
+use Rattle.laws.specs.Overwrite.{overwrite}
+use Rattle.laws.proofs.Overwrite.{overwrite-none, one_store}
+use Rattle.laws.specs.Blocks.{blocks}
+use Rattle.laws.proofs.Blocks.{blocks-map, one_more, all-written}
+use Rattle.laws.specs.Parts.{part}
+use Rattle.laws.proofs.Parts.{length_part}
 use Rattle.surface.specs.Raise.{raised}
 use Rattle.surface.proofs.Below.{below_at}
 use Rattle.surface.proofs.Copies.{read-before}

@@ -7,7 +7,8 @@ use native.Mathlib.Omega.{arith}
 use lib.ListN.{length}
 use Rattle.laws.specs.Overwrite.{overwrite}
 use Rattle.laws.specs.Blocks.{blocks}
-use Rattle.laws.specs.Parts.{part, length_part}
+use Rattle.laws.specs.Parts.{part}
+use Rattle.laws.proofs.Parts.{length_part}
 use Rattle.surface.specs.Raise.{raised, copy_of, Below, RepeatFits}
 use Rattle.surface.proofs.Below.{below-blocks}
 use Rattle.surface.proofs.Copies.{part-kept, copy-none, next-copies, copies-after}

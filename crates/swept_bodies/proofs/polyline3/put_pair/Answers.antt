@@ -1,7 +1,8 @@
 -- Two points, one after the other. Assumes nothing.
 use mathlib.Core.Path.{refl, ap, ◌∙◌}
 use mathlib.Core.List.{◌++◌}
-use Rattle.laws.specs.Overwrite.{overwrite, written_behind}
+use Rattle.laws.specs.Overwrite.{overwrite}
+use Rattle.laws.proofs.Overwrite.{written_behind}
 use Rattle.vec3.specs.Points.{coordinates, sum_of}
 use Rattle.swept_bodies.proofs.polyline3.put_pair.Goals as goal
 

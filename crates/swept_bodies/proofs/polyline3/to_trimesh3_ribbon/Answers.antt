@@ -4,8 +4,8 @@ use mathlib.Core.Path.{◌≡◌, refl, sym, ap, ◌∙◌}
 use Prim.Native.Nat.{◌+◌, ◌*◌, ◌-◌, ◌≤◌}
 use native.Mathlib.Omega.{arith}
 use lib.ListN.{length}
-use Rattle.laws.specs.Overwrite.{overwrite-none}
-use Rattle.laws.specs.Blocks.{one_more, all-written, length-blocks, ends-written}
+use Rattle.laws.proofs.Overwrite.{overwrite-none}
+use Rattle.laws.proofs.Blocks.{one_more, all-written, length-blocks, ends-written}
 use Rattle.curve.specs.Segments.{vertices_in, point_at}
 use Rattle.curve.specs.Framex.{carried_on}
 use Rattle.curve.specs.declared.framex.Carried.{Carried}

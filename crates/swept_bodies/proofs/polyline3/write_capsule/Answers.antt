@@ -8,9 +8,10 @@ use native.Mathlib.Omega.{arith}
 use lib.Ieee.{Float}
 use lib.ListN.{length}
 use borrow.Rule.Slice.PartMut.{put_mid}
-use Rattle.laws.specs.Overwrite.{overwrite, length-overwrite}
-use Rattle.laws.specs.Blocks.{ends-written}
-use Rattle.laws.specs.Lent.{length_rest, lent-from}
+use Rattle.laws.specs.Overwrite.{overwrite}
+use Rattle.laws.proofs.Overwrite.{length-overwrite}
+use Rattle.laws.proofs.Blocks.{ends-written}
+use Rattle.laws.proofs.Lent.{length_rest, lent-from}
 use Rattle.surface.specs.declared.caps.End.TheVariants.{Bottom, Top}
 use Rattle.curve.specs.Segments.{vertex_of}
 use Rattle.curve.specs.Framex.{carried_on}

@@ -7,10 +7,11 @@ use native.Mathlib.Omega.{arith}
 use lib.Ieee.{Float}
 use lib.ListN.{length}
 use borrow.Rule.Slice.PartMut.{put_mid}
-use Rattle.laws.specs.Overwrite.{overwrite, length-overwrite}
-use Rattle.laws.specs.Blocks.{ends-written}
-use Rattle.laws.specs.Lent.{length_rest, lent-from}
-use Rattle.laws.specs.Products.{next_row}
+use Rattle.laws.specs.Overwrite.{overwrite}
+use Rattle.laws.proofs.Overwrite.{length-overwrite}
+use Rattle.laws.proofs.Blocks.{ends-written}
+use Rattle.laws.proofs.Lent.{length_rest, lent-from}
+use Rattle.laws.proofs.Products.{next_row}
 use Rattle.curve.specs.Segments.{vertex_of}
 use Rattle.curve.specs.Framex.{carried_on}
 use Rattle.curve.specs.declared.framex.Carried.{Carried}

@@ -6,9 +6,9 @@ use native.Mathlib.Omega.{arith}
 use lib.Ieee.{Float}
 use lib.ListN.{length}
 use Rattle.laws.specs.Overwrite.{overwrite}
-use Rattle.laws.specs.Blocks.{first-and-others}
-use Rattle.laws.specs.Lent.{length_rest, lent-from}
-use Rattle.laws.specs.Products.{next_row}
+use Rattle.laws.proofs.Blocks.{first-and-others}
+use Rattle.laws.proofs.Lent.{length_rest, lent-from}
+use Rattle.laws.proofs.Products.{next_row}
 use Rattle.curve.specs.Segments.{vertex_of}
 use Rattle.curve.specs.Framex.{carried_on}
 use Rattle.curve.specs.declared.framex.Carried.{Carried}

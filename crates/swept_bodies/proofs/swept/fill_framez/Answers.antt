@@ -4,8 +4,8 @@ use mathlib.Core.List.{List}
 use Prim.Native.Nat.{ℕ, ◌+◌, ◌*◌, ◌-◌}
 use native.Mathlib.Omega.{arith}
 use lib.Ieee.{Float}
-use Rattle.laws.specs.Overwrite.{overwrite-none}
-use Rattle.laws.specs.Blocks.{one_more, all-written}
+use Rattle.laws.proofs.Overwrite.{overwrite-none}
+use Rattle.laws.proofs.Blocks.{one_more, all-written}
 use Rattle.vec3.specs.Points.{coordinates}
 use Rattle.curve.specs.Segments.{point_at}
 use Rattle.rings.specs.Axes.{between_of}

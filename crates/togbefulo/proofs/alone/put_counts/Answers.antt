@@ -1,6 +1,6 @@
 -- Two stores are one write of the counts.
 use Rattle.std.proofs.Common.{List, [], ◌∷◌}
-use Rattle.laws.specs.Overwrite.{stores}
+use Rattle.laws.proofs.Overwrite.{stores}
 use Rattle.togbefulo.proofs.alone.put_counts.Goals as goal
 
 pub returns-in-Counts-clause-counts_after : goal.returns-in-Counts-clause-counts_after

@@ -1,5 +1,5 @@
 -- One store is one write of the word.
-use Rattle.laws.specs.Overwrite.{one_store}
+use Rattle.laws.proofs.Overwrite.{one_store}
 use Rattle.togbefulo.proofs.set.put_word.Goals as goal
 
 pub returns-in-Word-clause-word_after : goal.returns-in-Word-clause-word_after

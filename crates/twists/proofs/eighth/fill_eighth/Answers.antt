@@ -4,7 +4,7 @@ use Rattle.std.proofs.Common.{◌≡◌, refl, sym, ap, ◌∙◌, ℕ, ◌*◌,
 use Rattle.std.specs.Prelude.{Float, pos}
 use Rattle.std.specs.Float.{binary32}
 use Rattle.std.specs.Float.Ieee.{of_int, of_bits}
-use Rattle.laws.specs.Overwrite.{overwrite-none}
+use Rattle.laws.proofs.Overwrite.{overwrite-none}
 use Rattle.vec3.specs.Points.{over}
 use Rattle.vec3.specs.Turns.{whole, fraction, within_octant}
 use Rattle.vec3.specs.declared.turns.Direction.{Direction}

@@ -3,7 +3,8 @@
 use Rattle.std.proofs.Common.{◌≡◌, sym, ap, ◌∙◌, List, ℕ, ◌+◌, ◌-◌, ◌≤◌, length, get_or, arith}
 use Rattle.std.specs.Prelude.{Float}
 use Rattle.std.specs.Float.{nan}
-use Rattle.laws.specs.Parts.{part, length_part, get_or-part}
+use Rattle.laws.specs.Parts.{part}
+use Rattle.laws.proofs.Parts.{length_part, get_or-part}
 use Rattle.twists.specs.Leaders.{led_by}
 use Rattle.twists.specs.declared.leader.Leader.{Leader}
 use Rattle.twists.proofs.Leaders.{leads-none, leads-block}

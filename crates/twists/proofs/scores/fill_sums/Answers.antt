@@ -1,7 +1,7 @@
 -- Each turn of the loop writes one sum after the last; 512 of them fill the list.
 use Rattle.std.proofs.Common.{◌≡◌, sym, ap, ℕ, get_or, arith}
 use Rattle.std.specs.Float.{nan}
-use Rattle.laws.specs.Overwrite.{overwrite-none}
+use Rattle.laws.proofs.Overwrite.{overwrite-none}
 use Rattle.vec3.specs.Points.{plus, times}
 use Rattle.twists.specs.Scores.{product_sum, product_sums}
 use Rattle.twists.proofs.Tables.{one-filled, all-filled}

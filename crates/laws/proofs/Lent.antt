@@ -7,7 +7,7 @@ use Rattle.std.proofs.Common.{le_of_suc-le-suc, arith, length-drop, drop_of_leng
 use borrow.Rule.Slice.PartMut.{put_mid, post_of}
 use Rattle.laws.specs.Parts.{part}
 use Rattle.laws.specs.Overwrite.{overwrite}
-use Rattle.laws.specs.Overlaps.{overwrite-front}
+use Rattle.laws.proofs.Overlaps.{overwrite-front}
 
 module _ {X : Type 0} where
   -- a write at place b of the part that begins at place a

@@ -2,7 +2,8 @@
 -- nothing.
 use Rattle.std.specs.Prelude.{◌≡◌, refl, List, [], ◌∷◌, ◌++◌, ℕ, zero, suc, ◌+◌, ◌≤◌, length, drop}
 use Rattle.std.proofs.Common.{sym, ap, subst, suc-add, add-suc, not-suc-le-zero, le_of_suc-le-suc, arith}
-use Rattle.laws.specs.Overwrite.{overwrite, overwrite-none}
+use Rattle.laws.specs.Overwrite.{overwrite}
+use Rattle.laws.proofs.Overwrite.{overwrite-none}
 
 module _ {ℓ} {A : Type ℓ} where
   -- a write that is no shorter covers one at the same place

@@ -1,0 +1,10 @@
+pub mod Parts
+pub mod Overwrite
+pub mod Overlaps
+pub mod Lent
+pub mod Blocks
+pub mod Sums
+pub mod Products
+pub mod Conjunction
+pub mod Every
+pub mod Places
