@@ -1,4 +1,3 @@
-pub mod Products
 pub mod NanPatterns
 pub mod Nans
 pub mod Order
@@ -7,6 +6,7 @@ pub mod Rootless
 pub mod Shift
 pub mod Signs
 pub mod Squares
+pub mod Tests
 pub mod UnitPatterns
 pub mod RootLaw
 pub mod ZeroCounts

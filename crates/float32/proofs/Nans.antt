@@ -1,7 +1,8 @@
 -- A product by a NaN and a sum with a NaN are NaNs, in every format: the operations say so in a
 -- clause for each case of the other operand. Assumes nothing.
-use mathlib.Core.Path.{◌≡◌, refl}
-use lib.Ieee.{Float, nan, inf, fin, Format, mul, add}
+use Rattle.std.proofs.Common.{◌≡◌, refl, Float}
+use Rattle.std.specs.Float.{nan, inf, fin, Format}
+use Rattle.std.specs.Float.Ieee.{mul, add}
 
 pub mul-nan : (f : Format) (x : Float) → mul f x nan ≡ nan
 unfolding mul

@@ -1,17 +1,12 @@
 -- The order of floats: `le` is transitive, and of two finite values one is at most the other. A
 -- finite value is a fraction with a sign, so each comparison is one of natural numbers.
 -- Assumes nothing.
-use mathlib.Core.Path.{◌≡◌, refl, sym, ap}
-use mathlib.Core.Bool.{Bool, true, false, not, ◌||◌, beq, false≢true, or-true}
-use mathlib.Core.Logic.{◌⊎◌, inl, inr, ⊎_elim}
-use Prim.Native.Nat.{ℕ, ◌+◌, ◌*◌, ◌≤◌, ◌<◌}
-use native.Mathlib.Nat.{eq-zero-or-pos, eq-or-lt_of_le, zero-mul, mul-le-mul_right, le_of_mul-le-mul_right}
-use native.Mathlib.Omega.{arith}
-use borrow.Author.Tests.{ltb-true, ltb-false, eqb-true, lt-ltb, eq-eqb}
-use lib.Dec.{ltb, eqb}
-use lib.Ieee.{Float, nan, inf, fin, up, down, below, level, lt, eq, le}
-use lib.Ieee.Fits.{down_pos}
-use lib.Ieee.Scale.{finite}
+use Rattle.std.proofs.Common.{◌≡◌, refl, sym, ap, Bool, true, false, not, ◌||◌, ◌⊎◌, inl, inr, ⊎_elim, ℕ, ◌+◌, ◌*◌, ◌≤◌, ◌<◌, eq-zero-or-pos, eq-or-lt_of_le, zero-mul, mul-le-mul_right, le_of_mul-le-mul_right, arith, ltb-true, ltb-false, eqb-true, lt-ltb, eq-eqb, ltb, eqb, Float}
+use Rattle.std.proofs.Math.Bool.{beq, false≢true, or-true}
+use Rattle.std.specs.Float.{nan, inf, fin}
+use Rattle.std.specs.Float.Ieee.{up, down, below, level, lt, eq, le}
+use Rattle.std.specs.Float.Ieee.Fits.{down_pos}
+use Rattle.std.specs.Float.Ieee.Scale.{finite}
 use Rattle.laws.proofs.Conjunction.{both_true}
 
 either_true : (p q : Bool) → p || q ≡ true → (p ≡ true) ⊎ (q ≡ true)

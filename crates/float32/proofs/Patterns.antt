@@ -1,14 +1,10 @@
 -- The bit patterns of an `f32`: what number each stands for. Assumes nothing.
-use mathlib.Core.Path.{◌≡◌, refl, sym, ap, ◌∙◌, subst}
-use Prim.Native.Nat.{ℕ, suc, ◌+◌, ◌-◌, ◌*◌, ◌/◌, ◌%◌, ◌^◌, ◌≤◌, ◌<◌}
-use native.Mathlib.Nat.{not-le_of_lt, mod-eq_of_lt, mul-one, mul_assoc, add_comm}
-use native.Mathlib.Omega.{arith}
-use mathlib.Core.Bool.{Bool, false, cond}
-use lib.Dec.{T, leb, eqb, leb→le, eqb→eq, not_T}
-use lib.Pow.{pow-add}
-use lib.Ieee.{Float, nan, inf, binary32, odd, of_fields, of_bits}
-use lib.Ieee.Bits.{is_false, cond_no}
-use lib.Ieee.Exact.{HasValue, odd_sign}
+use Rattle.std.proofs.Common.{◌≡◌, refl, sym, ap, ◌∙◌, subst, ℕ, suc, ◌+◌, ◌-◌, ◌*◌, ◌/◌, ◌%◌, ◌^◌, ◌≤◌, ◌<◌, not-le_of_lt, mod-eq_of_lt, mul-one, mul_assoc, add_comm, arith, Bool, false, cond, T, leb, eqb, leb→le, eqb→eq, pow-add, Float}
+use Rattle.std.proofs.Math.Dec.{not_T}
+use Rattle.std.specs.Float.{nan, inf, binary32}
+use Rattle.std.specs.Float.Ieee.{odd, of_fields, of_bits}
+use Rattle.std.specs.Float.Ieee.Bits.{is_false, cond_no}
+use Rattle.std.specs.Float.Ieee.Exact.{HasValue, odd_sign}
 
 pub of_bits_is : (b : ℕ)
     → of_bits binary32 b ≡ of_fields binary32 (leb 2147483648 b) (b % 2147483648 / 8388608) (b % 8388608)

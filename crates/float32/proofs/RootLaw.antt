@@ -1,17 +1,12 @@
 -- The root of an `f32` above zero, from the whole number nearest to the root of a square of 47 or
 -- 48 digits. Assumes nothing.
-use mathlib.Core.Path.{◌≡◌, refl, sym, ap, ◌∙◌, subst}
-use mathlib.Core.Logic.{inl, inr}
-use Prim.Native.Nat.{ℕ, zero, suc, ◌+◌, ◌-◌, ◌*◌, ◌/◌, ◌^◌, ◌≤◌, ◌<◌, compare}
-use native.Mathlib.Nat.{lt_irrefl, lt_of_not-le, le_of_suc-le-suc, zero-mul, eq-or-lt_of_le, mul-le-mul_right}
-use native.Mathlib.Nat.{mul-pos, mul_assoc, div-mul-le_self, lt-div-mul-add}
-use native.Mathlib.Omega.{arith}
-use mathlib.Core.Bool.{true, false}
-use lib.Dec.{T}
-use lib.Pow.{pow_pos, pow-add}
-use lib.Ieee.{Float, nan, inf, fin, binary32, up, down, size, nearest, units, of_bits}
-use lib.Ieee.Fits.{down_pos}
-use lib.Ieee.Exact.{HasValue}
+use Rattle.std.proofs.Common.{◌≡◌, refl, sym, ap, ◌∙◌, subst, inl, inr, ℕ, zero, suc, ◌+◌, ◌-◌, ◌*◌, ◌/◌, ◌^◌, ◌≤◌, ◌<◌, lt_irrefl, lt_of_not-le, le_of_suc-le-suc, zero-mul, eq-or-lt_of_le, mul-le-mul_right, mul-pos, mul_assoc, div-mul-le_self, arith, true, false, T, pow_pos, pow-add, Float}
+use Prim.Native.Nat.{compare}
+use Rattle.std.proofs.Math.Nat.{lt-div-mul-add}
+use Rattle.std.specs.Float.{nan, inf, fin, binary32}
+use Rattle.std.specs.Float.Ieee.{up, down, size, nearest, units, of_bits}
+use Rattle.std.specs.Float.Ieee.Fits.{down_pos}
+use Rattle.std.specs.Float.Ieee.Exact.{HasValue}
 use Rattle.float32.specs.WholeRoot.{IsRoot, whole_root, whole_root-is}
 use Rattle.float32.specs.Root.{root_of_units, root_of}
 use Rattle.float32.specs.Near.{Near, RootBits}

@@ -1,17 +1,11 @@
 -- The patterns from the infinity's on, save its own and that of -0, are those of values with no
 -- root: NaNs, and numbers below zero. Assumes nothing.
-use mathlib.Core.Path.{◌≡◌, refl, sym, ap, ◌∙◌, subst}
-use Prim.Native.Nat.{ℕ, zero, suc, ◌+◌, ◌*◌, ◌/◌, ◌%◌, ◌^◌, ◌≤◌, ◌<◌}
-use native.Mathlib.Nat.{lt_irrefl, mul-pos, zero-mul, eq-zero-or-pos}
-use native.Mathlib.Omega.{arith}
-use mathlib.Core.Bool.{Bool, true, false, cond}
-use mathlib.Core.Logic.{inl, inr}
-use lib.Dec.{T, leb, eqb, le→leb}
-use lib.Pow.{pow_pos}
-use lib.Ieee.{Float, nan, inf, fin, binary32, up, odd, of_fields, of_bits}
-use lib.Ieee.Fits.{down_pos}
-use lib.Ieee.Bits.{is_true}
-use lib.Ieee.Exact.{HasValue, odd_sign}
+use Rattle.std.proofs.Common.{◌≡◌, refl, sym, ap, ◌∙◌, subst, ℕ, zero, suc, ◌+◌, ◌*◌, ◌/◌, ◌%◌, ◌^◌, ◌≤◌, ◌<◌, lt_irrefl, mul-pos, zero-mul, eq-zero-or-pos, arith, Bool, true, false, cond, inl, inr, T, leb, eqb, le→leb, pow_pos, Float}
+use Rattle.std.specs.Float.{nan, inf, fin, binary32}
+use Rattle.std.specs.Float.Ieee.{up, odd, of_fields, of_bits}
+use Rattle.std.specs.Float.Ieee.Fits.{down_pos}
+use Rattle.std.specs.Float.Ieee.Bits.{is_true}
+use Rattle.std.specs.Float.Ieee.Exact.{HasValue, odd_sign}
 use Rattle.float32.specs.Root.{root_of}
 use Rattle.float32.proofs.NanPatterns.{nan-bits}
 use Rattle.float32.proofs.Patterns.{of_bits_is}

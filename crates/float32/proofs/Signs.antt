@@ -1,9 +1,7 @@
 -- A product's sign: it is the same whichever factor is negated. Assumes nothing.
-use mathlib.Core.Path.{◌≡◌, refl, ap}
-use mathlib.Core.Bool.{Bool, true, false, not, cond}
-use Prim.Native.Nat.{◌*◌}
-use lib.Dec.{eqb}
-use lib.Ieee.{Float, Format, nan, inf, fin, unlike, up, down, round, neg, mul}
+use Rattle.std.proofs.Common.{◌≡◌, refl, ap, Bool, true, false, not, cond, ◌*◌, eqb, Float}
+use Rattle.std.specs.Float.{Format, nan, inf, fin}
+use Rattle.std.specs.Float.Ieee.{unlike, up, down, round, neg, mul}
 
 unlike-not : (s t : Bool) → unlike (not s) t ≡ unlike s (not t)
 unlike-not true true = refl

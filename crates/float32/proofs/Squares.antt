@@ -1,16 +1,11 @@
 -- Whole roots and nearest roots: the 24 leading digits of a root, and which of two neighbours is
 -- the nearer, when the square is N * p * p. Assumes nothing.
-use mathlib.Core.Path.{◌≡◌, refl, sym, ap, ◌∙◌, subst}
-use mathlib.Core.Logic.{inl, inr}
-use Prim.Native.Nat.{ℕ, suc, ◌+◌, ◌*◌, ◌/◌, ◌≤◌, ◌<◌, compare, Ordering}
-use native.Mathlib.Nat.{le_antisymm, lt_of_not-le, le_of_suc-le-suc, mul-le-mul, mul-le-mul_left}
-use native.Mathlib.Nat.{mul-le-mul_right, mul-pos, le_of_mul-le-mul_right, lt_of_mul-lt-mul_right}
-use native.Mathlib.Nat.{div-mul-le_self, lt-div-mul-add, eq-or-lt_of_le}
-use native.Mathlib.Omega.{arith}
-use mathlib.Core.Bool.{not}
-use lib.Dec.{T, is_le, compare_is_eq, eqb, leb→le, nleb→lt, eqb→eq, eqb_refl}
-use lib.Arith.{lt_of_le-ne}
-use lib.Ieee.{nearest}
+use Rattle.std.proofs.Common.{◌≡◌, refl, sym, ap, ◌∙◌, subst, inl, inr, ℕ, suc, ◌+◌, ◌*◌, ◌/◌, ◌≤◌, ◌<◌, le_antisymm, lt_of_not-le, le_of_suc-le-suc, mul-le-mul, mul-le-mul_left, mul-le-mul_right, mul-pos, le_of_mul-le-mul_right, lt_of_mul-lt-mul_right, div-mul-le_self, eq-or-lt_of_le, arith, not, T, eqb, leb→le, eqb→eq}
+use Prim.Native.Nat.{compare, Ordering}
+use Rattle.std.proofs.Math.Nat.{lt-div-mul-add}
+use Rattle.std.proofs.Math.Dec.{is_le, compare_is_eq, nleb→lt, eqb_refl}
+use Rattle.std.proofs.Math.Arith.{lt_of_le-ne}
+use Rattle.std.specs.Float.Ieee.{nearest}
 use Rattle.float32.specs.WholeRoot.{IsRoot}
 use Rattle.float32.specs.Near.{Near}
 

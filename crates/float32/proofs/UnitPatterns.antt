@@ -1,19 +1,12 @@
 -- The pattern of g * 2 ^ k of the smallest value, for a g of 24 digits or 2 ^ 24. Assumes nothing.
-use mathlib.Core.Path.{◌≡◌, refl, sym, ap, ◌∙◌, subst}
-use mathlib.Core.Logic.{inl, inr}
-use Prim.Native.Nat.{ℕ, suc, ◌+◌, ◌-◌, ◌*◌, ◌/◌, ◌^◌, ◌≤◌, ◌<◌}
-use native.Mathlib.Nat.{le_antisymm, le_trans, le_of_eq, lt_of_le_of_lt, lt_of_lt_of_le, lt_of_not-le}
-use native.Mathlib.Nat.{not-le_of_lt, pow-succ', eq-or-lt_of_le, mul-le-mul, mul-le-mul_right, mul_assoc}
-use native.Mathlib.Nat.{mul-div_cancel}
-use native.Mathlib.Omega.{arith}
-use mathlib.Core.Bool.{Bool, true, false, cond}
-use lib.Dec.{T, ltb, lt→ltb, lit<, lit≤}
-use lib.Pow.{pow_pos, pow_mono, pow-add}
-use lib.Ieee.{Float, nan, inf, fin, binary32, up, down, size, odd, units, to_bits, of_bits, fits}
-use lib.Ieee.Digits.{size-lt, size-le}
-use lib.Ieee.Fits.{odd-fits, down_pos}
-use lib.Ieee.Exact.{HasValue, units_val}
-use lib.Ieee.Bits.{of_bits-to_bits}
+use Rattle.std.proofs.Common.{◌≡◌, refl, sym, ap, ◌∙◌, subst, inl, inr, ℕ, suc, ◌+◌, ◌-◌, ◌*◌, ◌/◌, ◌^◌, ◌≤◌, ◌<◌, le_antisymm, le_trans, le_of_eq, lt_of_le_of_lt, lt_of_lt_of_le, lt_of_not-le, not-le_of_lt, eq-or-lt_of_le, mul-le-mul, mul-le-mul_right, mul_assoc, mul-div_cancel, arith, Bool, true, false, cond, T, ltb, lt→ltb, lit<, lit≤, pow_pos, pow_mono, pow-add, Float}
+use Rattle.std.proofs.Math.Nat.{pow-succ'}
+use Rattle.std.specs.Float.{nan, inf, fin, binary32}
+use Rattle.std.specs.Float.Ieee.{up, down, size, odd, units, to_bits, of_bits, fits}
+use Rattle.std.specs.Float.Ieee.Digits.{size-lt, size-le}
+use Rattle.std.specs.Float.Ieee.Fits.{odd-fits, down_pos}
+use Rattle.std.specs.Float.Ieee.Exact.{HasValue, units_val}
+use Rattle.std.specs.Float.Ieee.Bits.{of_bits-to_bits}
 
 -- ---- how many places stand below the 24 leading digits
 size_is : (n j : ℕ) → 2 ^ j ≤ n → n < 2 ^ suc j → size n ≡ suc j

@@ -20,22 +20,13 @@ pub(crate) fn guess(t: u64) -> f64
         + 536870911.999999940395355224609375
 }
 
-// The whole number nearest to the root of n, between one that is too low and one that is not.
-fn by_halves(n: u64) -> u64
+// The whole number nearest to the root of n: the root rounded down, or the number after it.
+fn by_floor(n: u64) -> u64
     requires { (0 < n) × (n < 2 ^ 48) }
     ensures { Near n result }
 {
-    let mut lo = 0u64;
-    let mut hi = 16777216u64;
-    while lo + 1 < hi {
-        let mid = (lo + hi) / 2;
-        if mid * mid + mid < n {
-            lo = mid;
-        } else {
-            hi = mid;
-        }
-    }
-    hi
+    let r = n.isqrt();
+    if n <= r * r + r { r } else { r + 1 }
 }
 
 // The whole number nearest to the root of n. The last digits of the guess are a number q, and it
@@ -45,10 +36,10 @@ pub(crate) fn near_root(n: u64, d: f64) -> u64
     requires { (0 < n) × (n < 2 ^ 48) }
     ensures { Near n result }
 {
-    if d != d {
-        return by_halves(n);
+    if d.is_nan() {
+        return by_floor(n);
     }
-    let q = f64::to_bits(d) % 33554432;
+    let q = d.to_bits() % 33554432;
     let w = q * q + q;
     if w < n + 2 * q && n <= w + 2 * q {
         if w < n {
@@ -56,5 +47,5 @@ pub(crate) fn near_root(n: u64, d: f64) -> u64
         }
         return q;
     }
-    by_halves(n)
+    by_floor(n)
 }

@@ -25,7 +25,7 @@ fn root_of_small(b: u32) -> f32
     if b == 0 {
         return 0.0;
     }
-    let z = u32::leading_zeros(b) - 8;
+    let z = b.leading_zeros() - 8;
     f32::from_bits(root_bits((b << z) as u64, ((z + 1) % 2) as u64, (126 - z) / 2))
 }
 
@@ -46,13 +46,11 @@ fn root_of_rest(b: u32) -> f32
     requires { 0x7f80_0000 ≤ b }
     ensures { result ≡ root_of (of_bits binary32 b) }
 {
-    if b == 0x8000_0000 {
-        return -0.0;
+    match b {
+        0x8000_0000 => -0.0,
+        0x7f80_0000 => f32::INFINITY,
+        _ => f32::NAN,
     }
-    if b == 0x7f80_0000 {
-        return 1.0 / 0.0;
-    }
-    0.0 / 0.0
 }
 
 // IEEE 754's square root.
@@ -60,15 +58,13 @@ pub fn root(x: f32) -> f32
     ensures { result ≡ root_of x }
 {
     // Code can read the pattern of no NaN.
-    if x != x {
+    if x.is_nan() {
         return x;
     }
-    let b = f32::to_bits(x);
-    if 0x0080_0000 <= b {
-        if b < 0x7f80_0000 {
-            return root_of_normal(b);
-        }
-        return root_of_rest(b);
+    let b = x.to_bits();
+    match b {
+        0x0080_0000..0x7f80_0000 => root_of_normal(b),
+        0..0x0080_0000 => root_of_small(b),
+        _ => root_of_rest(b),
     }
-    root_of_small(b)
 }

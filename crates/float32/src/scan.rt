@@ -8,13 +8,5 @@ use crate::words::is_finite;
 pub fn are_finite(values: &[f32]) -> bool
     ensures { result ≡ all_finite values.now }
 {
-    let mut all = true;
-    let mut i: usize = 0;
-    while i < values.len() {
-        if !is_finite(values[i]) {
-            all = false;
-        }
-        i += 1;
-    }
-    all
+    values.iter().fold(true, |all, x| all & is_finite(*x))
 }

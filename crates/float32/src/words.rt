@@ -4,25 +4,22 @@ ghost use Rattle.std.specs.Float.{binary32};
 ghost use Rattle.std.specs.Float.Ieee.{of_bits, to_bits};
 ghost use Rattle.std.specs.Float.Ieee.Scale.{finite};
 
-// Neither an infinity nor a NaN.
+// Neither an infinity nor a NaN. Two comparisons: by the library's own test, which subtracts,
+// `are_finite` takes a sixth longer.
 pub fn is_finite(x: f32) -> bool
     ensures { result ≡ finite x }
 {
-    let infinity = 1.0 / 0.0;
-    if x < infinity {
-        return -infinity < x;
-    }
-    false
+    f32::NEG_INFINITY < x && x < f32::INFINITY
 }
 
 // The bit pattern of x. Of all NaNs it is the same one, since no promise can tell them apart.
 pub fn to_word(x: f32) -> u32
     ensures { result ≡ to_bits binary32 x }
 {
-    if x != x {
+    if x.is_nan() {
         return 0x7fc0_0000;
     }
-    f32::to_bits(x)
+    x.to_bits()
 }
 
 // The value with the bit pattern w.
@@ -30,7 +27,7 @@ pub fn from_word(w: u32) -> f32
     ensures { result ≡ of_bits binary32 w }
 {
     if w % 0x8000_0000 > 0x7f80_0000 {
-        return 0.0 / 0.0;
+        return f32::NAN;
     }
     f32::from_bits(w)
 }

@@ -5,9 +5,5 @@ ghost use Rattle.float32.specs.Zeros.{zeros};
 pub fn fill_zeros(out: &mut [f32])
     ensures { out.new ≡ zeros (length out.old) }
 {
-    let mut i: usize = 0;
-    while i < out.len() {
-        out[i] = 0.0;
-        i += 1;
-    }
+    out.fill(0.0);
 }

@@ -1,14 +1,9 @@
 -- The twist that the search chooses is one of the best. The places from 0 to 4095 are the twists,
 -- each once, and the leader after all places has a score that no other is above. Assumes nothing.
-use mathlib.Core.Path.{◌≡◌, refl, sym, ap, ◌∙◌}
-use mathlib.Core.Bool.{Bool, true, false, ◌&&◌, cond}
-use Prim.Native.Nat.{ℕ, ◌+◌, ◌-◌, ◌<◌}
-use native.Mathlib.Nat.{not-suc-le-zero}
-use native.Mathlib.Omega.{arith}
-use borrow.Author.Tests.{leb-true, leb-false, le-leb, lt-leb}
-use lib.Dec.{leb}
-use lib.Ieee.{Float, le}
-use lib.Ieee.Scale.{finite}
+use Rattle.std.proofs.Common.{◌≡◌, refl, sym, ap, ◌∙◌, Bool, true, false, ◌&&◌, cond, ℕ, ◌+◌, ◌-◌, ◌<◌, not-suc-le-zero, arith, leb-true, leb-false, le-leb, leb, Float}
+use Rattle.std.proofs.lemmas.Bool.{lt-leb}
+use Rattle.std.specs.Float.Ieee.{le}
+use Rattle.std.specs.Float.Ieee.Scale.{finite}
 use Rattle.laws.proofs.Conjunction.{both_true}
 use Rattle.laws.specs.Every.{every}
 use Rattle.laws.proofs.Every.{every-each, each-every}

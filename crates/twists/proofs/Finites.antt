@@ -1,21 +1,14 @@
 -- Whether all scores are finite, tried a block at a time. Assumes nothing.
-use mathlib.Core.Path.{◌≡◌, sym, ap, ◌∙◌}
-use mathlib.Core.Bool.{Bool, ◌&&◌, and-true, and_assoc}
-use mathlib.Core.List.{List}
-use Prim.Native.Nat.{ℕ, zero, suc, ◌+◌}
-use native.Mathlib.Nat.{add-zero, add-suc}
-use lib.Ieee.{Float, nan}
-use lib.Ieee.Scale.{finite}
-use lib.ListN.{length, get_or}
+use Rattle.std.proofs.Common.{◌≡◌, sym, ap, ◌∙◌, Bool, ◌&&◌, List, ℕ, zero, suc, ◌+◌, add-zero, add-suc, Float, length, get_or}
+use Rattle.std.proofs.Math.Bool.{and-true, and_assoc}
+use Rattle.std.specs.Float.{nan}
+use Rattle.std.specs.Float.Ieee.Scale.{finite}
 use Rattle.laws.specs.Every.{every}
 use Rattle.laws.proofs.Every.{every-cong}
 use Rattle.float32.specs.Scan.{all_finite}
 use Rattle.twists.specs.Twists.{score_of, twist_at}
-use Rattle.twists.specs.Scores.{ScoresIn}
-
--- what a `&&` of the code answers, once its first test gave t
-pub and-after : (t a b : Bool) {r : Bool} → a ≡ t → r ≡ t && b → r ≡ a && b
-and-after t a b first is = is ∙ ap (λ (x : Bool). x && b) (sym first)
+use Rattle.twists.specs.Scores.{place_score}
+use Rattle.twists.specs.Eighth.{Tabulates}
 
 -- the first m tests, then the n after them
 every-split : (m n : ℕ) (f : ℕ → Bool) → every m f && every n (λ k. f (m + k)) ≡ every (m + n) f
@@ -30,17 +23,20 @@ abbrev pub finite_at : Float → Float → ℕ → Bool
 finite_at c0 s0 count = (finite c0 && finite s0) && every count (λ i. finite (score_of c0 s0 (twist_at i)))
 
 -- a turn of a loop that tries the scores of 512 places from m on
-pub finite-block : (c0 s0 : Float) (m : ℕ) (scores : List Float) {now next : Bool} → ScoresIn c0 s0 m scores
+pub finite-block : (c0 s0 : Float) (m : ℕ) (scores : List Float) {now next : Bool} → length scores ≡ 512
+    → Tabulates 512 (place_score c0 s0 m) scores
     → now ≡ finite_at c0 s0 m → next ≡ now && all_finite scores → next ≡ finite_at c0 s0 (m + 512)
 unfolding all_finite
-finite-block c0 s0 m scores {now} {next} holds before is =
+finite-block c0 s0 m scores {now} {next} sized holds before is =
     is
     ∙ (λ i. before i && all i)
     ∙ and_assoc (finite c0 && finite s0) (every m score) (every 512 (λ k. score (m + k)))
-    ∙ ap (λ (b : Bool). (finite c0 && finite s0) && b) (every-split m 512 score) where
-      score : ℕ → Bool
-      score i = finite (score_of c0 s0 (twist_at i))
+    ∙ ap (λ (b : Bool). (finite c0 && finite s0) && b) (every-split m 512 score)
+  where
+    score : ℕ → Bool
+    score i = finite (score_of c0 s0 (twist_at i))
 
-      all : every (length scores) (λ i. finite (get_or scores i nan)) ≡ every 512 (λ k. score (m + k))
-      all = ap (λ (n : ℕ). every n (λ i. finite (get_or scores i nan))) holds.many
-          ∙ every-cong 512 (λ i. finite (get_or scores i nan)) (λ k. score (m + k)) (λ k h. ap finite (holds.score k h))
+    all : every (length scores) (λ i. finite (get_or scores i nan)) ≡ every 512 (λ k. score (m + k))
+    all =
+        ap (λ (n : ℕ). every n (λ i. finite (get_or scores i nan))) sized
+        ∙ every-cong 512 (λ i. finite (get_or scores i nan)) (λ k. score (m + k)) (λ k h. ap finite (holds k h))

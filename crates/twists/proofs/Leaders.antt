@@ -1,15 +1,9 @@
 -- How the leader changes with one more score and with a block of them, and that no score tried is
 -- above its own: all by induction on how many were tried. Assumes nothing.
-use mathlib.Core.Path.{◌≡◌, refl, sym, ap, ◌∙◌}
-use mathlib.Core.Bool.{Bool, true, false, not, cond}
-use mathlib.Core.Logic.{⊎_elim}
-use Prim.Native.Nat.{ℕ, zero, suc, ◌+◌, ◌≤◌, ◌<◌}
-use native.Mathlib.Nat.{zero-add, add-zero, add-suc, add_assoc, le_of_suc-le-suc, eq-or-lt_of_le}
-use native.Mathlib.Numerals.{add-one}
-use native.Mathlib.Omega.{arith}
-use borrow.Author.Tests.{not-true}
-use lib.Ieee.{Float, lt, le}
-use lib.Ieee.Scale.{finite}
+use Rattle.std.proofs.Common.{◌≡◌, refl, sym, ap, ◌∙◌, Bool, true, false, not, cond, ⊎_elim, ℕ, zero, suc, ◌+◌, ◌≤◌, ◌<◌, zero-add, add-zero, add-suc, add_assoc, le_of_suc-le-suc, eq-or-lt_of_le, add-one, arith, Float}
+use Rattle.std.proofs.lemmas.Bool.{not-true}
+use Rattle.std.specs.Float.Ieee.{lt, le}
+use Rattle.std.specs.Float.Ieee.Scale.{finite}
 use Rattle.laws.proofs.Conjunction.{both_true}
 use Rattle.laws.specs.Every.{every}
 use Rattle.float32.proofs.Order.{lt-le, not-lt-le, le_refl, le_trans}

@@ -1,23 +1,16 @@
 -- The direction of step j of octant o is a pair of the table of an eighth, with its numbers
 -- exchanged or negated as the octant says. So the scores of the steps in an octant are sums over
 -- that table. Assumes nothing.
-use mathlib.Core.Path.{◌≡◌, refl, sym, ap, ◌∙◌}
-use mathlib.Core.Bool.{Bool, true, false, not, cond}
-use mathlib.Core.List.{List, [], ◌∷◌}
-use Prim.Native.Nat.{ℕ, ◌+◌, ◌-◌, ◌*◌, ◌/◌, ◌%◌, ◌<◌}
-use native.Mathlib.Omega.{arith}
-use borrow.Author.Tests.{lt-ltb}
-use lib.Dec.{eqb}
-use lib.Ieee.{Float, nan, neg, binary32}
-use lib.ListN.{get_or}
-use Rattle.laws.proofs.Blocks.{blocks-cong}
+use Rattle.std.proofs.Common.{◌≡◌, refl, sym, ap, ◌∙◌, Bool, true, false, not, cond, List, ℕ, ◌+◌, ◌-◌, ◌*◌, ◌/◌, ◌%◌, ◌<◌, arith, lt-ltb, eqb, Float}
+use Rattle.std.specs.Float.{binary32}
+use Rattle.std.specs.Float.Ieee.{neg}
 use Rattle.float32.proofs.Signs.{mul-neg}
 use Rattle.vec3.specs.Points.{plus, times}
 use Rattle.vec3.specs.Turns.{fraction, part_of, in_octant, direction_of, turn_of}
 use Rattle.vec3.specs.declared.turns.Direction.{Direction}
 use Rattle.twists.specs.Twists.{forward, backwards, signed, twist_direction, score_of}
-use Rattle.twists.specs.Eighth.{eighth_of, entry_at}
-use Rattle.twists.specs.Scores.{product_sum, product_sums, octant_scores}
+use Rattle.twists.specs.Eighth.{eighth_of, entry_at, Tabulates}
+use Rattle.twists.specs.Scores.{product_sum, forward_score}
 
 -- every entry is one of the table's
 pub entry-within : (odd : Bool) (j : ℕ) → j < 512 → entry_at odd j < 513
@@ -67,24 +60,20 @@ score-backwards c0 s0 steps =
     let d = turn_of steps 4096 in
     ap (λ (p : Float). plus (times c0 d.cos) p) (sym (mul-neg binary32 s0 d.sin))
 
--- what a table holds: one of the two numbers of each pair
-abbrev Holds : List Float → (Direction → Float) → Type 0
-Holds xs x = (i : ℕ) → i < 513 → get_or xs i nan ≡ x (eighth_of i)
-
 -- The sums a·x + b·y are the scores of an octant's steps, where for each pair of the table the sum
 -- is the score of the pair in that octant.
-pub octant-sums : (c0 s0 a b : Float) (o : ℕ) (xs ys : List Float) (x y : Direction → Float) → o < 8
-    → Holds xs x → Holds ys y
+pub octant-sums : (c0 s0 a b : Float) (o octant : ℕ) (xs ys out : List Float) (x y : Direction → Float) → o < 8
+    → octant ≡ o
+    → Tabulates 513 (λ i. x (eighth_of i)) xs
+    → Tabulates 513 (λ i. y (eighth_of i)) ys
     → ((d : Direction) → plus (times a (x d)) (times b (y d)) ≡ dot_with c0 s0 (in_octant o d.cos d.sin))
-    → product_sums a b (is_odd o) xs ys ≡ octant_scores c0 s0 o
-unfolding product_sums octant_scores
-octant-sums c0 s0 a b o xs ys x y h reads-x reads_y same =
-    blocks-cong 512 (λ j. product_sum a b (is_odd o) xs ys j ∷ []) (λ j. score_of c0 s0 (forward (512 * o + j)) ∷ [])
-    (λ j l. ap (λ (s : Float). s ∷ []) (score j l)) where
-      score : (j : ℕ) → j < 512 → product_sum a b (is_odd o) xs ys j ≡ score_of c0 s0 (forward (512 * o + j))
-      score j l =
-          let e = entry_at (is_odd o) j in
-          let w = entry-within (is_odd o) j l in
-          (λ i. plus (times a (reads-x e w i)) (times b (reads_y e w i)))
-          ∙ same (eighth_of e)
-          ∙ sym (score-of-step c0 s0 o j h l)
+    → Tabulates 512 (product_sum a b (is_odd o) xs ys) out
+    → Tabulates 512 (forward_score c0 s0 octant) out
+octant-sums c0 s0 a b o octant xs ys out x y h is reads-x reads_y same sums j l =
+    let e = entry_at (is_odd o) j in
+    let w = entry-within (is_odd o) j l in
+    sums j l
+    ∙ (λ i. plus (times a (reads-x e w i)) (times b (reads_y e w i)))
+    ∙ same (eighth_of e)
+    ∙ sym (score-of-step c0 s0 o j h l)
+    ∙ ap (λ (k : ℕ). forward_score c0 s0 k j) (sym is)

@@ -1,22 +1,29 @@
-ghost use Rattle.std.specs.Prelude.{◌≤◌, length};
-ghost use Rattle.twists.specs.Eighth.{EighthTable};
+ghost use Rattle.twists.specs.Eighth.{Tabulates, cosine_at, sine_at};
 
 use vec3::within_octant;
 
 // How many angles there are from 0 to an eighth of a turn, in steps of 1/4096 turn.
 pub(crate) const EIGHTH: usize = 513;
 
-// Fills the tables of the cosines and the sines of these angles. Every direction of k/4096 turn is
-// one of these pairs, with its numbers exchanged or negated.
-pub(crate) fn fill_eighth(cos: &mut [f32], sin: &mut [f32])
-    requires { (513 ≤ length cos.old) × (513 ≤ length sin.old) }
-    ensures { EighthTable cos.new sin.new }
+// The cosines and the sines of these angles. Every direction of k/4096 turn is one of these pairs,
+// with its numbers exchanged or negated. Two arrays and not one of pairs, since the scores are
+// sums over one number of each pair, several at a time.
+#[derive(Clone, Copy)]
+pub(crate) struct Eighth<'a> {
+    pub cos: &'a [f32; EIGHTH],
+    pub sin: &'a [f32; EIGHTH],
+    ghost cosines: { Tabulates 513 cosine_at cos.now },
+    ghost sines: { Tabulates 513 sine_at sin.now },
+}
+
+// Works the tables out where they lie, so that none is copied.
+pub(crate) fn fill_eighth(cos: &mut [f32; EIGHTH], sin: &mut [f32; EIGHTH])
+    ensures cosines { Tabulates 513 cosine_at cos.new }
+    ensures sines { Tabulates 513 sine_at sin.new }
 {
-    let mut i: u16 = 0;
-    while i <= 512 {
+    for i in 0..EIGHTH {
         let d = within_octant((8 * i) as f32 / 4096.0);
-        cos[i as usize] = d.cos;
-        sin[i as usize] = d.sin;
-        i += 1;
+        cos[i] = d.cos;
+        sin[i] = d.sin;
     }
 }

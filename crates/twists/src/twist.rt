@@ -1,9 +1,11 @@
 ghost use Rattle.std.specs.Prelude.{◌≡◌};
-ghost use Rattle.twists.specs.Twists.{signed, share_of, score_of, twist_at, twisted_frame};
+ghost use Rattle.twists.specs.Twists.{signed, twisted_frame, twist_at};
 
 use vec3::{Direction, Frame, Point, turn};
 
 // The twist of k/4096 turn: `steps` is the magnitude of k, and `backward` says that k is negative.
+// Not one signed number: the direction of k is that of its magnitude, with the sine's sign changed
+// for a negative k.
 #[derive(Clone, Copy)]
 pub struct Twist {
     pub steps: u16,
@@ -11,27 +13,23 @@ pub struct Twist {
 }
 
 // Negates the sine of a direction for a negative k.
+#[tactic(auto, unfolding(crate::specs::Twists::signed))]
 fn signed(backward: bool, d: Direction) -> Direction
     ensures { result ≡ signed backward d }
 {
     if backward {
-        return Direction {
-            cos: d.cos,
-            sin: -d.sin,
-        };
+        return Direction { sin: -d.sin, ..d };
     }
     d
 }
 
 // The twist that the search tries at place `i` of 4,096: 0 to 2048, then −1 to −2047.
+#[tactic(auto, unfolding(crate::specs::Twists::twist_at))]
 pub(crate) fn twist_at(i: u16) -> Twist
     ensures { result ≡ twist_at i }
 {
     if i <= 2048 {
-        return Twist {
-            steps: i,
-            backward: false,
-        };
+        return Twist::forward(i);
     }
     Twist {
         steps: i - 2048,
@@ -40,8 +38,21 @@ pub(crate) fn twist_at(i: u16) -> Twist
 }
 
 impl Twist {
+    ghost use Rattle.twists.specs.Twists.{forward, score_of, share_of};
+
+    // The twist of a k that is not negative.
+    pub(crate) fn forward(steps: u16) -> Twist
+        ensures { result ≡ forward steps }
+    {
+        Twist {
+            steps,
+            backward: false,
+        }
+    }
+
     // The score of the twist: how far it turns the first frame towards the last, which came back
     // at the cosine `c0` and the sine `s0` of an angle.
+    #[tactic(auto, unfolding(crate::specs::Twists::score_of, crate::specs::Twists::twist_direction))]
     pub(crate) fn score(self, c0: f32, s0: f32) -> f32
         ensures { result ≡ score_of c0 s0 self }
     {
@@ -50,6 +61,7 @@ impl Twist {
     }
 
     // The share of the twist at vertex `j` of a loop of `vertices`: k·j/(4096·vertices) turn.
+    #[tactic(auto, unfolding(crate::specs::Twists::share_of))]
     pub fn share(self, j: u16, vertices: u16) -> Direction
         ensures { result ≡ share_of self j vertices }
     {
@@ -60,6 +72,7 @@ impl Twist {
 
 // The frame of a segment along `u`, turned about it by a share of the twist. A share of no turn
 // gives the axis across `u` and the frame.
+#[tactic(auto, unfolding(crate::specs::Twists::twisted_frame))]
 pub fn twisted(frame: Frame, u: Point, share: Direction) -> Frame
     ensures { result ≡ twisted_frame frame u share }
 {

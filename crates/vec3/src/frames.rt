@@ -10,6 +10,7 @@ pub struct Frame {
 }
 
 // A triple whose dot with u is zero, and that is not near zero itself where u has the norm 1.
+#[tactic(auto, unfolding(crate::specs::Frames::perpendicular_to, crate::specs::Frames::across_x, crate::specs::Frames::across_y))]
 fn perpendicular(u: Point) -> Point
     ensures { result ≡ perpendicular_to u }
 {
@@ -30,6 +31,7 @@ fn perpendicular(u: Point) -> Point
 
 impl Frame {
     // v is the difference of the first segment's ends.
+    #[tactic(auto, unfolding(crate::specs::Frames::first_frame))]
     pub fn first(v: Point) -> Frame
         ensures { result ≡ first_frame v }
     {
@@ -37,6 +39,7 @@ impl Frame {
     }
 
     // The same, of that difference normalised.
+    #[tactic(auto, unfolding(crate::specs::Frames::frame_beside))]
     pub fn beside(u: Point) -> Frame
         ensures { result ≡ frame_beside u }
     {
@@ -46,6 +49,7 @@ impl Frame {
     }
 
     // From the segment along u to the segment along w, both normalised.
+    #[tactic(auto, unfolding(crate::specs::Frames::transported))]
     pub fn transport(self, u: Point, w: Point) -> Frame
         ensures { result ≡ transported self u w }
     {

@@ -12,12 +12,15 @@ pub struct Point {
 
 impl Point {
     // The same number on each axis.
+    #[tactic(auto, unfolding(crate::specs::Points::thrice))]
     pub fn thrice(k: f32) -> Point
         ensures { result ≡ thrice k }
     {
         Point { x: k, y: k, z: k }
     }
 
+    // Component by component.
+    #[tactic(auto, unfolding(crate::specs::Points::sum_of))]
     pub fn add(self, b: Point) -> Point
         ensures { result ≡ sum_of self b }
     {
@@ -28,6 +31,8 @@ impl Point {
         }
     }
 
+    // Component by component.
+    #[tactic(auto, unfolding(crate::specs::Points::difference_of))]
     pub fn sub(self, b: Point) -> Point
         ensures { result ≡ difference_of self b }
     {
@@ -38,6 +43,8 @@ impl Point {
         }
     }
 
+    // Each component times k.
+    #[tactic(auto, unfolding(crate::specs::Points::scaled))]
     pub fn scale(self, k: f32) -> Point
         ensures { result ≡ scaled self k }
     {
@@ -48,6 +55,8 @@ impl Point {
         }
     }
 
+    // Component by component.
+    #[tactic(auto, unfolding(crate::specs::Points::product_of))]
     pub fn product(self, b: Point) -> Point
         ensures { result ≡ product_of self b }
     {
@@ -58,6 +67,8 @@ impl Point {
         }
     }
 
+    // Each component by k.
+    #[tactic(auto, unfolding(crate::specs::Points::quotient_of))]
     pub fn divide(self, k: f32) -> Point
         ensures { result ≡ quotient_of self k }
     {
@@ -68,12 +79,16 @@ impl Point {
         }
     }
 
+    // Left to right.
+    #[tactic(auto, unfolding(crate::specs::Points::dot_of))]
     pub fn dot(self, b: Point) -> f32
         ensures { result ≡ dot_of self b }
     {
         self.x * b.x + self.y * b.y + self.z * b.z
     }
 
+    // The cross product.
+    #[tactic(auto, unfolding(crate::specs::Points::cross_of))]
     pub fn cross(self, b: Point) -> Point
         ensures { result ≡ cross_of self b }
     {
@@ -84,12 +99,16 @@ impl Point {
         }
     }
 
+    // The root of the dot with itself.
+    #[tactic(auto, unfolding(crate::specs::Points::norm_of))]
     pub fn norm(self) -> f32
         ensures { result ≡ norm_of self }
     {
         float32::root(self.dot(self))
     }
 
+    // Each component divided by the norm.
+    #[tactic(auto, unfolding(crate::specs::Points::normalised))]
     pub fn normalize(self) -> Point
         ensures { result ≡ normalised self }
     {

@@ -9,6 +9,7 @@ pub struct Direction {
 }
 
 // How far into an octant, from the end where the angle is a multiple of a quarter turn.
+#[tactic(auto, unfolding(crate::specs::Turns::part_of, crate::specs::Turns::fraction, crate::specs::Turns::whole))]
 fn part(o: u32, r: u32, n: u32) -> f32
     requires { (r < n) × (n ≤ 16777216) }
     ensures { result ≡ part_of o r n }
@@ -19,12 +20,14 @@ fn part(o: u32, r: u32, n: u32) -> f32
     (n - r) as f32 / n as f32
 }
 
+// The sine of a, z being its square.
 fn sine(a: f32, z: f32) -> f32
     ensures { result ≡ sine_of a z }
 {
     a * (1.0 + z * (-1.0 / 6.0 + z * (1.0 / 120.0 + z * (-1.0 / 5040.0 + z * (1.0 / 362880.0)))))
 }
 
+// The cosine of an angle whose square is z.
 fn cosine(z: f32) -> f32
     ensures { result ≡ cosine_of z }
 {
@@ -32,6 +35,7 @@ fn cosine(z: f32) -> f32
 }
 
 // The cosine and the sine of an angle in the first octant, `y` of an eighth of a turn.
+#[tactic(auto, unfolding(crate::specs::Turns::within_octant))]
 pub fn within_octant(y: f32) -> Direction
     ensures { result ≡ within_octant y }
 {
@@ -43,6 +47,9 @@ pub fn within_octant(y: f32) -> Direction
     }
 }
 
+// The pair of an angle's cosine and sine, as it stands in octant o. An octant stays a number: it
+// is a quotient, and eight names for 0 to 7 would have to be made from it first.
+#[tactic(auto, unfolding(crate::specs::Turns::in_octant))]
 fn in_octant(o: u32, c: f32, s: f32) -> Direction
     requires { o < 8 }
     ensures { result ≡ in_octant o c s }
@@ -59,6 +66,8 @@ fn in_octant(o: u32, c: f32, s: f32) -> Direction
     }
 }
 
+// The direction of k / n turn.
+#[tactic(auto, unfolding(crate::specs::Turns::direction_of))]
 fn direction_of(k: u32, n: u32) -> Direction
     requires { (k < n) × (n ≤ 16777216) }
     ensures { result ≡ direction_of k n }
@@ -69,6 +78,7 @@ fn direction_of(k: u32, n: u32) -> Direction
 }
 
 // The direction of k / n turn, for k < n ≤ 2 ^ 24; of no turn for other k and n.
+#[tactic(auto, unfolding(crate::specs::Turns::turn_of))]
 pub fn turn(k: u32, n: u32) -> Direction
     ensures { result ≡ turn_of k n }
 {

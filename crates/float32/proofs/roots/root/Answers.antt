@@ -1,33 +1,28 @@
--- `float32::root` meets its contract: the argument is the value of its own pattern, and each arm
--- gives that value's root. Assumes nothing.
-use mathlib.Core.Path.{◌≡◌, sym, ap, ◌∙◌, subst}
-use lib.Dec.{T}
-use lib.Ieee.{Float, nan, binary32, of_bits, to_bits}
-use lib.Ieee.Bits.{of_bits-to_bits}
-use lib.Ieee.Compare.{differs_from_itself}
+-- The argument is the value of its own pattern, and each arm gives that value's root. Assumes
+-- nothing.
+use Rattle.std.proofs.Common.{◌≡◌, sym, ap, ◌∙◌, T, Float, rules}
+use Rattle.std.specs.Float.{nan, binary32}
+use Rattle.std.specs.Float.Ieee.{of_bits, to_bits, fits}
+use Rattle.std.specs.Float.Ieee.Bits.{of_bits-to_bits}
 use Rattle.float32.specs.Root.{root_of}
-use Rattle.float32.proofs.NanPatterns.{no_nan}
+use Rattle.float32.proofs.NanPatterns.{is-nan}
 use Rattle.float32.proofs.roots.root.Goals as goal
-use Rattle.float32.proofs.roots.root.Goals.{Start}
-
-own : (c : Start) → root_of (of_bits binary32 (to_bits binary32 c.args.x)) ≡ root_of c.args.x
-own c = ap root_of (of_bits-to_bits binary32 c.args.x (subst T (sym c.well_formed.0.1) tt))
 
 own-nan : (x : Float) → x ≡ nan → x ≡ root_of x
 unfolding root_of
 own-nan x e = rw e
 
-pub returns-then-x : goal.returns-then-x
-returns-then-x c = own-nan c.args.x (differs_from_itself c.args.x (subst T (sym c.if-x.true) tt))
+pub returns-then-is_nan : goal.returns-then-is_nan
+returns-then-is_nan c = own-nan c.args.x (is-nan c.args.x (sym c.is_nan.ensures.value ∙ c.if-is_nan.true))
 
-pub float_to_bits-b : goal.float_to_bits-b
-float_to_bits-b c = no_nan _ c.if-x.false
+own : (x : Float) → T (fits binary32 x) → root_of (of_bits binary32 (to_bits binary32 x)) ≡ root_of x
+own x h = ap root_of (of_bits-to_bits binary32 x h)
 
-pub returns-then-b-lt2139095040 : goal.returns-then-b-lt2139095040
-returns-then-b-lt2139095040 c = c.root_of_normal.ensures ∙ own (goal.at.returns-then-b-lt2139095040 c).Start
+pub returns-in-8388608-to-2139095039 : goal.returns-in-8388608-to-2139095039
+returns-in-8388608-to-2139095039 c = c.root_of_normal.ensures ∙ own c.args.x (search rules)
 
-pub returns-then-b-ge8388608 : goal.returns-then-b-ge8388608
-returns-then-b-ge8388608 c = c.root_of_rest.ensures ∙ own (goal.at.returns-then-b-ge8388608 c).Start
+pub returns-in-0-to-8388607 : goal.returns-in-0-to-8388607
+returns-in-0-to-8388607 c = c.root_of_small.ensures ∙ own c.args.x (search rules)
 
-pub returns : goal.returns
-returns c = c.root_of_small.ensures ∙ own (goal.at.returns c).Start
+pub returns-in_default : goal.returns-in_default
+returns-in_default c = c.root_of_rest.ensures ∙ own c.args.x (search rules)

@@ -1,13 +1,11 @@
 -- `float32::roots::root_of_small` meets its contract: the pattern is how many of the smallest
 -- value there are. Assumes nothing.
-use mathlib.Core.Path.{◌≡◌, sym, ap, ◌∙◌}
-use Prim.Native.Nat.{ℕ, ◌+◌, ◌-◌, ◌*◌, ◌/◌, ◌%◌, ◌^◌, ◌≤◌}
-use native.Mathlib.Nat.{mod-eq_of_lt, pos_of_ne-zero}
-use native.Mathlib.Omega.{arith}
+use Rattle.std.proofs.Common.{◌≡◌, sym, ap, ◌∙◌, ℕ, ◌+◌, ◌-◌, ◌*◌, ◌/◌, ◌%◌, ◌^◌, ◌≤◌, mod-eq_of_lt, pos_of_ne-zero, arith}
 use lib.Count.{count_leading_zeros}
-use lib.Ieee.{binary32, of_bits}
+use Rattle.std.specs.Float.{binary32}
+use Rattle.std.specs.Float.Ieee.{of_bits}
+use Rattle.std.proofs.lemmas.Float.{not_nan_f32_bits}
 use Rattle.float32.specs.Root.{root_of}
-use Rattle.float32.proofs.NanPatterns.{number-bits}
 use Rattle.float32.proofs.Patterns.{small-value}
 use Rattle.float32.proofs.Shift.{Shifted, shifted}
 use Rattle.float32.proofs.roots.root_of_small.Goals as goal
@@ -25,15 +23,6 @@ at_place c = shifted c.args.b (pos_of_ne-zero c.if-b-eq0.false) c.requires
 pub overflow_sub-z : goal.overflow_sub-z
 overflow_sub-z c = (at_place (goal.at.overflow_sub-z c).Else-b-eq0).0
 
-pub overflow_shl-b : goal.overflow_shl-b
-overflow_shl-b c = omega (arith, (at_place (goal.at.overflow_shl-b c).Else-b-eq0).1.few)
-
-pub overflow_add-z : goal.overflow_add-z
-overflow_add-z c = omega (arith, (at_place (goal.at.overflow_add-z c).Else-b-eq0).1.few)
-
-pub overflow_sub-z-2 : goal.overflow_sub-z-2
-overflow_sub-z-2 c = omega (arith, (at_place (goal.at.overflow_sub-z-2 c).Else-b-eq0).1.few)
-
 pub root_bits-requires : goal.root_bits-requires
 root_bits-requires c =
     let h = (at_place (goal.at.root_bits-requires c).Else-b-eq0).1 in
@@ -41,9 +30,6 @@ root_bits-requires c =
     let l = h.low in
     let u = h.high in
     omega arith
-
-pub float_from_bits-result : goal.float_from_bits-result
-float_from_bits-result c = let u = c.root_bits.ensures.finite in number-bits binary32 c.root_bits.result (omega arith)
 
 pub returns : goal.returns
 returns c =
@@ -56,3 +42,6 @@ returns c =
     let p : 149 - z ≡ 24 - (z + 1) % 2 + ((126 - z) / 2 + (126 - z) / 2) = omega arith in
     c.root_bits.ensures.root-of (of_bits binary32 b) b (pos_of_ne-zero c.if-b-eq0.false) (small-value b c.requires)
     (h.value ∙ ap (λ (m : ℕ). m * 2 ^ (149 - z)) (sym e) ∙ ap (λ (x : ℕ). b * 2 ^ z % 4294967296 * 2 ^ x) p)
+
+pub float_from_bits-result : goal.float_from_bits-result
+float_from_bits-result c = not_nan_f32_bits _ (let u = c.root_bits.ensures.finite in omega arith)

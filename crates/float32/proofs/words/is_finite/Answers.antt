@@ -1,28 +1,27 @@
--- `float32::is_finite` meets its contract: only the infinities and a NaN do not lie between the
--- infinities. Assumes nothing.
-use mathlib.Core.Path.{◌≡◌, refl, sym}
-use mathlib.Core.Bool.{true, false}
-use lib.Ieee.{Float, nan, inf, fin, lt, neg, div, of_bits}
-use lib.Ieee.Scale.{finite}
+-- Only the infinities and a NaN do not lie between the infinities. Assumes nothing.
+use Rattle.std.proofs.Common.{◌≡◌, refl, sym, ◌∙◌, true, false, Float}
+use Rattle.std.specs.Float.{nan, inf, fin}
+use Rattle.std.specs.Float.Ieee.{lt, of_bits}
+use Rattle.std.specs.Float.Ieee.Scale.{finite}
 use Rattle.float32.proofs.words.is_finite.Goals as goal
 
-below : (x : Float) → lt x (inf false) ≡ true → lt (inf true) x ≡ finite x
+above : (x : Float) → lt (inf true) x ≡ true → lt x (inf false) ≡ finite x
 unfolding lt
-below nan h = refl
-below (inf true) h = refl
-below (inf false) h = sym h
-below (fin s m e) h = refl
+above nan h = refl
+above (inf true) h = sym h
+above (inf false) h = refl
+above (fin s m e) h = refl
 
-not-below : (x : Float) → lt x (inf false) ≡ false → false ≡ finite x
+not-above : (x : Float) → lt (inf true) x ≡ false → false ≡ finite x
 unfolding lt
-not-below nan h = refl
-not-below (inf s) h = refl
-not-below (fin s m e) h = sym h
+not-above nan h = refl
+not-above (inf s) h = refl
+not-above (fin s m e) h = sym h
 
-pub returns-then-x-infinity : goal.returns-then-x-infinity
-unfolding of_bits div neg
-returns-then-x-infinity c = below c.args.x c.if-x-infinity.true
+pub returns-then-x : goal.returns-then-x
+unfolding of_bits
+returns-then-x c = above c.args.x c.if-x.true
 
-pub returns : goal.returns
-unfolding of_bits div
-returns c = not-below c.args.x c.if-x-infinity.false
+pub returns-else-x : goal.returns-else-x
+unfolding of_bits
+returns-else-x c = c.if-x.false ∙ not-above c.args.x c.if-x.false

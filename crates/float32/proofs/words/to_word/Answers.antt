@@ -1,14 +1,11 @@
--- `float32::to_word` meets its contract: only a NaN differs from itself. Assumes nothing.
-use mathlib.Core.Path.{sym, ap, subst}
-use lib.Dec.{T}
-use lib.Ieee.{binary32, to_bits}
-use lib.Ieee.Compare.{differs_from_itself}
-use Rattle.float32.proofs.NanPatterns.{no_nan}
+-- All NaNs are one value, whose pattern is the one written. Assumes nothing.
+use Rattle.std.proofs.Common.{sym, ap, ◌∙◌}
+use Rattle.std.specs.Float.{binary32}
+use Rattle.std.specs.Float.Ieee.{to_bits}
+use Rattle.float32.proofs.NanPatterns.{is-nan}
 use Rattle.float32.proofs.words.to_word.Goals as goal
 
-pub returns-then-x : goal.returns-then-x
+pub returns-then-is_nan : goal.returns-then-is_nan
 unfolding to_bits
-returns-then-x c = ap (to_bits binary32) (sym (differs_from_itself c.args.x (subst T (sym c.if-x.true) tt)))
-
-pub float_to_bits-result : goal.float_to_bits-result
-float_to_bits-result c = no_nan _ c.if-x.false
+returns-then-is_nan c =
+    sym (ap (to_bits binary32) (is-nan c.args.x (sym c.is_nan.ensures.value ∙ c.if-is_nan.true)))

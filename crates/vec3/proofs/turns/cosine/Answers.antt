@@ -1,7 +1,7 @@
 -- `vec3::turns::cosine` meets its contract: the code is the definition, its numbers by their bit
 -- patterns. Assumes nothing.
-use mathlib.Core.Path.{refl}
-use lib.Ieee.{of_int, of_bits}
+use Rattle.std.proofs.Common.{refl}
+use Rattle.std.specs.Float.Ieee.{of_int, of_bits}
 use Rattle.vec3.specs.Turns.{cosine_of, bracket, fraction, minus_fraction, whole}
 use Rattle.vec3.proofs.turns.cosine.Goals as goal
 
