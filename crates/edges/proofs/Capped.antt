@@ -1,10 +1,6 @@
 -- A grid of rings between two caps: what is claimed of its list. Assumes nothing.
-use mathlib.Core.Path.{◌≡◌, refl, sym, ap, ◌∙◌, subst}
-use mathlib.Core.Logic.{◌⊎◌, inl, inr, ◌≢◌}
-use mathlib.Core.List.{List, ◌++◌}
-use Prim.Native.Nat.{ℕ, ◌+◌, ◌-◌, ◌*◌, ◌≤◌, ◌<◌}
-use native.Mathlib.Nat.{eq-zero-or-pos, mul-le-mul_right}
-use native.Mathlib.Omega.{arith}
+use Rattle.std.proofs.Common.{sum_by, ◌≡◌, refl, sym, ap, ◌∙◌, subst, ◌⊎◌, inl, inr, ◌≢◌, List, ◌++◌, ℕ}
+use Rattle.std.proofs.Common.{◌+◌, ◌-◌, ◌*◌, ◌≤◌, ◌<◌, eq-zero-or-pos, mul-le-mul_right, arith}
 use Rattle.surface.specs.Triangles.{Triangle}
 use Rattle.surface.specs.Grid.{after_of, grid_triangles}
 use Rattle.surface.specs.Caps.{cap_triangles}
@@ -13,7 +9,7 @@ use Rattle.surface.specs.declared.caps.End.{End}
 use Rattle.surface.specs.declared.caps.End.TheVariants.{Bottom, Top}
 use Rattle.surface.specs.declared.quads.Split.TheVariants.{Capped}
 use Rattle.surface.proofs.Chains.{after-lt}
-use Rattle.edges.specs.Edges.{Edge, ◌⟶◌, reverse, edges, same, total, count, is_zero, NoneTwice, AllMatched}
+use Rattle.edges.specs.Edges.{Edge, ◌⟶◌, reverse, edges, same, count, is_zero, NoneTwice, AllMatched}
 use Rattle.edges.specs.Edges.{Inside, Within}
 use Rattle.edges.proofs.Zero.{is_zero-yes}
 use Rattle.edges.proofs.Totals.{total-edges, within-append, within-blocks, within-widen}
@@ -39,7 +35,7 @@ abbrev cap : End → ℕ → ℕ → ℕ → ℕ → ℕ → ℕ → Edge
 cap end n pole rim = fan pole (second end n rim) (third end n rim)
 
 cap-total : (end : End) (n pole rim : ℕ) (f : Edge → ℕ)
-    → total f (edges (cap_triangles end n pole rim)) ≡ places 1 n 3 (cap end n pole rim) f
+    → sum_by f (edges (cap_triangles end n pole rim)) ≡ places 1 n 3 (cap end n pole rim) f
 cap-total Bottom n pole rim f = fan-total pole (second Bottom n rim) (third Bottom n rim) n f
 cap-total Top n pole rim f = fan-total pole (second Top n rim) (third Top n rim) n f
 
@@ -117,7 +113,7 @@ module _ (n S first : ℕ) where
   cap_at end = cap end n (pole end) (rim end)
 
   capped-total : (f : Edge → ℕ)
-      → total f (edges capped) ≡ places 1 n 3 (cap_at Bottom) f + (places S n 6 at f + places 1 n 3 (cap_at Top) f)
+      → sum_by f (edges capped) ≡ places 1 n 3 (cap_at Bottom) f + (places S n 6 at f + places 1 n 3 (cap_at Top) f)
   capped-total f =
       total-edges f (cap_list Bottom) (grid ++ cap_list Top)
       ∙ omega (
@@ -256,12 +252,15 @@ module _ (n S first : ℕ) where
       where
         low : (is_zero g ≡ 0) ⊎ (0 < is_zero g) → 1 ≤ count (reverse (at g i 0)) (edges capped)
         low (inl z) = inner-mate g i 0 hg hi (omega arith) (omega arith)
-        low (inr p) = let e : g ≡ 0 = is_zero-yes g p in rw e (closed-by Bottom i hi)
+        low (inr p) =
+            subst (λ (k : ℕ). 1 ≤ count (reverse (at k i 0)) (edges capped)) (sym (is_zero-yes g p)) (closed-by Bottom i hi)
 
         high : (is_zero (S - (g + 1)) ≡ 0) ⊎ (0 < is_zero (S - (g + 1))) → 1 ≤ count (reverse (at g i 3)) (edges capped)
         high (inl z) = inner-mate g i 3 hg hi (omega arith) (omega arith)
         high (inr p) =
-            let z = is_zero-yes (S - (g + 1)) p in let e : g ≡ S - 1 = omega arith in rw e (closed-by Top i hi)
+            let z = is_zero-yes (S - (g + 1)) p in
+            let e : S - 1 ≡ g = omega arith in
+            subst (λ (k : ℕ). 1 ≤ count (reverse (at k i 3)) (edges capped)) e (closed-by Top i hi)
 
     pub capped-matched : AllMatched (edges capped)
     capped-matched e h =

@@ -1,18 +1,17 @@
 -- The points of a chain: which follows which, and where a chain ends. Assumes nothing.
-use mathlib.Core.Path.{◌≡◌, refl, ap, ◌∙◌}
-use mathlib.Core.Logic.{◌⊎◌, inl, inr, ◌≢◌}
-use mathlib.Core.Bool.{Bool, true, false, not}
-use Prim.Native.Nat.{ℕ, zero, suc, ◌+◌, ◌-◌, ◌%◌, ◌≤◌, ◌<◌}
-use native.Mathlib.Nat.{eq-or-lt_of_le, mod-lt, mod-eq_of_lt, mod_self}
+use Rattle.std.proofs.Common.{◌≡◌, refl, ap, ◌∙◌, ◌⊎◌, inl, inr, ◌≢◌, Bool, true, false, not, ℕ}
+use Rattle.std.proofs.Common.{zero, suc, ◌+◌, ◌-◌, ◌%◌, ◌≤◌, ◌<◌, eq-or-lt_of_le, mod-lt}
+use Rattle.std.proofs.Common.{mod-eq_of_lt, arith}
+use native.Mathlib.Nat.{mod_self}
 use native.Mathlib.Decide.{dec_lt}
-use native.Mathlib.Omega.{arith}
 use Rattle.surface.specs.Grid.{after_of, points_of}
 use Rattle.surface.specs.declared.grid.Chain.{Chain}
 use Rattle.surface.specs.declared.grid.Chain.TheVariants.{Open, Closed}
 use Rattle.surface.proofs.Chains.{after-lt}
 use Rattle.edges.specs.Edges.{is_zero, least_steps, ends}
 use Rattle.edges.proofs.Zero.{is_zero-le, is_zero-no, is_zero-yes, is_zero-pos, is_zero-zero}
-use Rattle.edges.proofs.Sum.{sum, sum-zero, sum-at}
+use Rattle.laws.specs.Sums.{sum_below}
+use Rattle.edges.proofs.Sum.{sum-zero, sum-at}
 
 -- ---- the point after another
 
@@ -164,7 +163,7 @@ no-neighbour Closed n true true i j h o p = omega arith
 -- ---- how many ends there are
 
 pub sum-ends : (chain : Chain) (n : ℕ) → least_steps chain ≤ n
-    → sum n (λ i. at_start chain i) + sum n (λ i. at_end chain n i) ≡ ends chain
+    → sum_below n (λ i. at_start chain i) + sum_below n (λ i. at_end chain n i) ≡ ends chain
 sum-ends Open n h =
     omega (
       arith,

@@ -1,14 +1,9 @@
 -- The corners of a quad and the two patterns of its six edges. Assumes nothing.
-use mathlib.Core.Path.{◌≡◌, refl, ap, ◌∙◌}
-use mathlib.Core.Logic.{◌⊎◌, inl, inr, ⊎_elim}
-use mathlib.Core.Bool.{Bool, true, false, not}
-use mathlib.Core.List.{List, [], ◌∷◌}
-use Prim.Native.Nat.{ℕ, zero, suc, ◌+◌, ◌<◌}
-use native.Mathlib.Omega.{arith}
-use lib.ListN.{get_or}
+use Rattle.std.proofs.Common.{◌≡◌, refl, ap, ◌∙◌, ◌⊎◌, inl, inr, ⊎_elim, Bool, true, false, not}
+use Rattle.std.proofs.Common.{List, [], ◌∷◌, ℕ, zero, suc, ◌+◌, ◌<◌, arith, get_or}
 use Rattle.surface.specs.declared.quads.Split.{Split}
 use Rattle.surface.specs.declared.quads.Split.TheVariants.{Capped, Torus, Tube, Ribbon}
-use Rattle.edges.proofs.Sum.{sum}
+use Rattle.laws.specs.Sums.{sum_below}
 
 -- near or far along the curve, near or far round the ring
 abbrev pub Corner : Type 0
@@ -63,7 +58,7 @@ pub record Pattern : Type 0 where
   pub mate-head : (s : ℕ) → s < 6 → head (mate s) ≡ opposite (head s)
   pub crosses : (s : ℕ) → s < 6 → ((head s).0 ≡ not (tail s).0) ⊎ ((head s).1 ≡ not (tail s).1)
   pub sides : (f g : Bool → Bool → ℕ) → f false true ≡ 0 → f true false ≡ 0 → g false true ≡ 0 → g true false ≡ 0
-      → sum 6 (λ s. f (tail s).0 (head s).0 + g (tail s).1 (head s).1) ≡ (f false false + f true true) + (g false false + g true true)
+      → sum_below 6 (λ s. f (tail s).0 (head s).0 + g (tail s).1 (head s).1) ≡ (f false false + f true true) + (g false false + g true true)
 
 -- triangles (a, b, d), (e, d, b): torus, and ribbon, whose second triangle is that one begun at b
 abbrev forward : Pattern

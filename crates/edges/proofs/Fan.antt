@@ -1,15 +1,11 @@
 -- n triangles round a pole: (p, x i, y i) for each i below n, as places of one row. Assumes
 -- nothing.
-use mathlib.Core.Path.{◌≡◌, refl, ◌∙◌}
-use mathlib.Core.Logic.{◌≢◌}
-use mathlib.Core.List.{[], ◌∷◌}
-use Prim.Native.Nat.{ℕ, zero, suc, ◌<◌}
-use native.Mathlib.Omega.{arith}
-use lib.ListN.{get_or}
+use Rattle.std.proofs.Common.{sum_by, ◌≡◌, refl, ◌∙◌, ◌≢◌, [], ◌∷◌, ℕ, zero, suc, ◌<◌, arith, get_or}
 use Rattle.laws.specs.Blocks.{blocks}
 use Rattle.surface.specs.Triangles.{triangle}
-use Rattle.edges.specs.Edges.{Edge, ◌⟶◌, edges, total}
-use Rattle.edges.proofs.Sum.{sum, sum-cong}
+use Rattle.edges.specs.Edges.{Edge, ◌⟶◌, edges}
+use Rattle.laws.specs.Sums.{sum_below}
+use Rattle.edges.proofs.Sum.{sum-cong}
 use Rattle.edges.proofs.Totals.{total-blocks}
 use Rattle.edges.proofs.Places.{places, Placed, Apart}
 
@@ -23,10 +19,10 @@ abbrev pub fan : ℕ → (ℕ → ℕ) → (ℕ → ℕ) → ℕ → ℕ → ℕ
 fan p x y g i s = get_or ((p ⟶ x i) ∷ (x i ⟶ y i) ∷ (y i ⟶ p) ∷ []) s (p ⟶ p)
 
 pub fan-total : (p : ℕ) (x y : ℕ → ℕ) (n : ℕ) (f : Edge → ℕ)
-    → total f (edges (blocks n (λ i. triangle p (x i) (y i) ∷ []))) ≡ places 1 n 3 (fan p x y) f
+    → sum_by f (edges (blocks n (λ i. triangle p (x i) (y i) ∷ []))) ≡ places 1 n 3 (fan p x y) f
 fan-total p x y n f =
     total-blocks f n (λ i. triangle p (x i) (y i) ∷ [])
-    ∙ sum-cong n _ (λ i. sum 3 (λ s. f (fan p x y 0 i s))) (λ i h. omega arith)
+    ∙ sum-cong n _ (λ i. sum_below 3 (λ s. f (fan p x y 0 i s))) (λ i h. omega arith)
     ∙ omega arith
 
 -- A fan closes: the x and the y of its triangles are the same vertices, each once, and the pole is

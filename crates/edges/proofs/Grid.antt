@@ -1,16 +1,13 @@
 -- The edges of a grid of quads, whichever way it wraps: none comes twice, and those whose quad has
 -- no neighbour lack their reverse. Assumes nothing.
-use mathlib.Core.Path.{◌≡◌, refl, sym, ap, ◌∙◌, subst₂}
-use mathlib.Core.Logic.{◌⊎◌, inl, inr}
-use mathlib.Core.Bool.{Bool, true, false, not}
-use Prim.Native.Nat.{ℕ, ◌+◌, ◌*◌, ◌/◌, ◌%◌, ◌≤◌, ◌<◌}
-use native.Mathlib.Nat.{eq-zero-or-pos}
-use native.Mathlib.Omega.{arith}
+use Rattle.std.proofs.Common.{◌≡◌, refl, sym, ap, ◌∙◌, subst₂, ◌⊎◌, inl, inr, Bool, true, false}
+use Rattle.std.proofs.Common.{not, ℕ, ◌+◌, ◌*◌, ◌/◌, ◌%◌, ◌≤◌, ◌<◌, eq-zero-or-pos, arith}
 use lib.Arith.{digits_div, digits_mod}
 use Rattle.surface.specs.Grid.{after_of, points_of}
 use Rattle.surface.specs.declared.grid.Chain.{Chain}
 use Rattle.edges.specs.Edges.{Edge, ◌⟶◌, reverse, least_steps, ends}
-use Rattle.edges.proofs.Sum.{sum, sum-cong, sum-add, sum-const, sum-mul}
+use Rattle.laws.specs.Sums.{sum_below}
+use Rattle.edges.proofs.Sum.{sum-cong, sum-add, sum-const, sum-mul}
 use Rattle.edges.proofs.Chains.{Turn, chain-turn, corner, corner-lt, corner-inj, across-tail, across-head}
 use Rattle.edges.proofs.Chains.{outside, outside-le, neighbour, no-neighbour, at_start, at_end, sum-ends}
 use Rattle.edges.proofs.Corners.{Corner, opposite, Step, none, onward, back, step, Pattern}
@@ -177,15 +174,15 @@ module _ (along : Chain) (m : ℕ) (round : Chain) (n : ℕ) (base : ℕ) (hm : 
         go (inr e) = omega (arith, crossing round n (P.tail s).1 (P.head s).1 i e, outside-le along m (P.tail s).0 (P.head s).0 g)
 
     -- the sides of the grid, counted
-    pub sum-outer : sum m (λ g. sum n (λ i. sum 6 (λ s. outer g i s))) ≡ n * ends along + m * ends round
+    pub sum-outer : sum_below m (λ g. sum_below n (λ i. sum_below 6 (λ s. outer g i s))) ≡ n * ends along + m * ends round
     sum-outer =
-        sum-cong m _ (λ g. sum n (λ i. across g + along-side i)) (λ g hg. sum-cong n _ _ (λ i hi. P.sides (λ x y. outside along m x y g) (λ x y. outside round n x y i) refl refl refl refl))
-        ∙ sum-cong m _ (λ g. n * across g + sum n along-side) (λ g hg. sum-add n (λ i. across g) along-side ∙ omega (arith, sum-const n (λ i. across g) (across g) (λ i hi. refl)))
-        ∙ sum-add m (λ g. n * across g) (λ g. sum n along-side)
+        sum-cong m _ (λ g. sum_below n (λ i. across g + along-side i)) (λ g hg. sum-cong n _ _ (λ i hi. P.sides (λ x y. outside along m x y g) (λ x y. outside round n x y i) refl refl refl refl))
+        ∙ sum-cong m _ (λ g. n * across g + sum_below n along-side) (λ g hg. sum-add n (λ i. across g) along-side ∙ omega (arith, sum-const n (λ i. across g) (across g) (λ i hi. refl)))
+        ∙ sum-add m (λ g. n * across g) (λ g. sum_below n along-side)
         ∙ omega (
           arith,
           sum-mul m n across,
-          sum-const m (λ g. sum n along-side) (sum n along-side) (λ g hg. refl),
+          sum-const m (λ g. sum_below n along-side) (sum_below n along-side) (λ g hg. refl),
           ap (λ (k : ℕ). n * k) (sum-add m (λ g. at_start along g) (λ g. at_end along m g) ∙ sum-ends along m hm),
           ap (λ (k : ℕ). m * k) (sum-add n (λ i. at_start round i) (λ i. at_end round n i) ∙ sum-ends round n hn),
         )

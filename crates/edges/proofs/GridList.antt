@@ -1,11 +1,6 @@
 -- What is claimed of a grid's list of triangles. Assumes nothing.
-use mathlib.Core.Path.{◌≡◌, sym, ap, ◌∙◌}
-use mathlib.Core.Logic.{◌⊎◌, inl, inr}
-use mathlib.Core.Bool.{false}
-use mathlib.Core.List.{List}
-use Prim.Native.Nat.{ℕ, ◌+◌, ◌*◌, ◌≤◌, ◌<◌}
-use native.Mathlib.Nat.{eq-zero-or-pos}
-use native.Mathlib.Omega.{arith}
+use Rattle.std.proofs.Common.{sum_by, ◌≡◌, sym, ap, ◌∙◌, ◌⊎◌, inl, inr, false, List, ℕ, ◌+◌, ◌*◌, ◌≤◌, ◌<◌}
+use Rattle.std.proofs.Common.{eq-zero-or-pos, arith}
 use lib.Arith.{digits_lt}
 use Rattle.surface.specs.Triangles.{Triangle}
 use Rattle.surface.specs.Grid.{after_of, points_of, row_triangles, grid_triangles}
@@ -14,10 +9,11 @@ use Rattle.surface.specs.declared.grid.Chain.{Chain}
 use Rattle.surface.specs.declared.quads.Split.{Split}
 use Rattle.surface.specs.declared.quads.Split.TheVariants.{Capped, Torus, Tube, Ribbon}
 use Rattle.surface.proofs.Chains.{after-lt}
-use Rattle.edges.specs.Edges.{Edge, reverse, edges, same, total, count, is_zero, lacks, unmatched, NoneTwice}
+use Rattle.edges.specs.Edges.{Edge, reverse, edges, same, count, is_zero, lacks, unmatched, NoneTwice}
 use Rattle.edges.specs.Edges.{Inside, Within, least_steps, ends}
 use Rattle.edges.proofs.Zero.{is_zero-pos}
-use Rattle.edges.proofs.Sum.{sum, sum-cong}
+use Rattle.laws.specs.Sums.{sum_below}
+use Rattle.edges.proofs.Sum.{sum-cong}
 use Rattle.edges.proofs.Totals.{total-blocks, within-blocks}
 use Rattle.edges.proofs.Chains.{corner-lt}
 use Rattle.edges.proofs.Corners.{pattern_of}
@@ -31,8 +27,8 @@ quad_at split along m round n base g i =
     quad_of split (v g i) (v g (after_of round n i)) (v (after_of along m g) i) (v (after_of along m g) (after_of round n i))
 
 quad-edges : (split : Split) (along : Chain) (m : ℕ) (round : Chain) (n base g i : ℕ) (f : Edge → ℕ)
-    → total f (edges (quad_at split along m round n base g i))
-    ≡ sum 6 (λ s. f (place (pattern_of split) along m round n base g i s))
+    → sum_by f (edges (quad_at split along m round n base g i))
+    ≡ sum_below 6 (λ s. f (place (pattern_of split) along m round n base g i s))
 quad-edges Capped along m round n base g i f = omega arith
 quad-edges Torus along m round n base g i f = omega arith
 quad-edges Tube along m round n base g i f = omega arith
@@ -53,7 +49,7 @@ module _ (split : Split) (along : Chain) (m : ℕ) (round : Chain) (n : ℕ) (ba
   abbrev at : ℕ → ℕ → ℕ → Edge
   at = place (pattern_of split) along m round n base
 
-  pub grid-total : (f : Edge → ℕ) → total f (edges list) ≡ places m n 6 at f
+  pub grid-total : (f : Edge → ℕ) → sum_by f (edges list) ≡ places m n 6 at f
   grid-total f =
       total-blocks f m (λ g. row_triangles split round n (base + g * points_of round n) (base + after_of along m g * points_of round n))
       ∙ sum-cong m _ _ (λ g hg.

@@ -1,14 +1,12 @@
 -- Totals over the edges of a list of triangles, as sums over its blocks. Assumes nothing.
-use mathlib.Core.Path.{◌≡◌, refl}
-use mathlib.Core.List.{List, [], ◌∷◌, ◌++◌}
-use mathlib.Core.Bool.{Bool, true, false}
-use Prim.Native.Nat.{ℕ, zero, suc, ◌+◌, ◌≤◌, ◌<◌}
-use native.Mathlib.Omega.{arith}
-use lib.Dec.{T, eqb, eqb→eq, eqb_refl}
+use Rattle.std.proofs.Common.{sum_by, ◌≡◌, refl, List, [], ◌∷◌, ◌++◌, Bool, true, false, ℕ, zero, suc, ◌+◌}
+use Rattle.std.proofs.Common.{◌≤◌, ◌<◌, arith, T, eqb, eqb→eq}
+use lib.Dec.{eqb_refl}
+use Rattle.std.proofs.lemmas.List.Sums.{sum_by-append}
 use Rattle.laws.specs.Blocks.{blocks}
 use Rattle.surface.specs.Triangles.{Triangle, triangle}
-use Rattle.edges.specs.Edges.{Edge, ◌⟶◌, edges, both, same, total, Within}
-use Rattle.edges.proofs.Sum.{sum}
+use Rattle.edges.specs.Edges.{Edge, ◌⟶◌, edges, both, same, Within}
+use Rattle.laws.specs.Sums.{sum_below}
 
 -- ---- two edges that are one
 
@@ -45,20 +43,16 @@ same-eq (a ⟶ b) (c ⟶ d) h =
 
 -- ---- totals
 
-total-append : (f : Edge → ℕ) (xs ys : List Edge) → total f (xs ++ ys) ≡ total f xs + total f ys
-total-append f [] ys = omega arith
-total-append f (x ∷ xs) ys = omega (arith, total-append f xs ys)
-
 edges-append : (xs ys : List Triangle) → edges (xs ++ ys) ≡ edges xs ++ edges ys
 edges-append [] ys = refl
 edges-append (triangle a b c ∷ xs) ys = rw (edges-append xs ys) refl
 
 pub total-edges : (f : Edge → ℕ) (xs ys : List Triangle)
-    → total f (edges (xs ++ ys)) ≡ total f (edges xs) + total f (edges ys)
-total-edges f xs ys = rw (edges-append xs ys) (total-append f (edges xs) (edges ys))
+    → sum_by f (edges (xs ++ ys)) ≡ sum_by f (edges xs) + sum_by f (edges ys)
+total-edges f xs ys = rw (edges-append xs ys) (sum_by-append f (edges xs) (edges ys))
 
 pub total-blocks : (f : Edge → ℕ) (n : ℕ) (F : ℕ → List Triangle)
-    → total f (edges (blocks n F)) ≡ sum n (λ k. total f (edges (F k)))
+    → sum_by f (edges (blocks n F)) ≡ sum_below n (λ k. sum_by f (edges (F k)))
 total-blocks f zero F = refl
 total-blocks f (suc n) F = omega (arith, total-edges f (blocks n F) (F n), total-blocks f n F)
 

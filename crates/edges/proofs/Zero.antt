@@ -1,7 +1,5 @@
 -- A count tested for 0. Assumes nothing.
-use mathlib.Core.Path.{◌≡◌, refl}
-use Prim.Native.Nat.{ℕ, zero, suc, ◌≤◌, ◌<◌}
-use native.Mathlib.Omega.{arith}
+use Rattle.std.proofs.Common.{◌≡◌, refl, ℕ, zero, suc, ◌≤◌, ◌<◌, arith}
 use Rattle.edges.specs.Edges.{is_zero}
 
 pub is_zero-le : (k : ℕ) → is_zero k ≤ 1

@@ -1,6 +1,6 @@
 -- Directed edges, and what is claimed of them. Document 01, 'Triangle lists', first paragraph, and
 -- demand 3. Definitions only.
-use Rattle.std.specs.Prelude.{List, [], ◌∷◌, Bool, true, false, ℕ, zero, suc, ◌+◌, ◌≤◌, ◌<◌, eqb}
+use Rattle.std.specs.Prelude.{List, [], ◌∷◌, Bool, true, false, ℕ, zero, suc, ◌≤◌, ◌<◌, eqb, sum_by}
 use Rattle.surface.specs.Triangles.{Triangle, triangle}
 use Rattle.surface.specs.declared.grid.Chain.{Chain}
 use Rattle.surface.specs.declared.grid.Chain.TheVariants.{Open, Closed}
@@ -19,11 +19,6 @@ abbrev pub edges : List Triangle → List Edge
 edges [] = []
 edges (triangle a b c ∷ ts) = (a ⟶ b) ∷ (b ⟶ c) ∷ (c ⟶ a) ∷ edges ts
 
--- f added up over the places of a list
-abbrev pub total : (Edge → ℕ) → List Edge → ℕ
-total f [] = 0
-total f (e ∷ es) = f e + total f es
-
 -- 1 where both tests pass, else 0
 abbrev pub both : Bool → Bool → ℕ
 both true true = 1
@@ -36,7 +31,7 @@ same (a ⟶ b) (c ⟶ d) = both (eqb a c) (eqb b d)
 
 -- at how many places of a list an edge comes
 abbrev pub count : Edge → List Edge → ℕ
-count e es = total (same e) es
+count e es = sum_by (same e) es
 
 abbrev pub is_zero : ℕ → ℕ
 is_zero zero = 1
@@ -56,7 +51,7 @@ AllMatched es = (e : Edge) → 1 ≤ count e es → 1 ≤ count (reverse e) es
 
 -- "and unmatched where its body lacks the reverse": how many places hold an unmatched edge.
 abbrev pub unmatched : List Edge → ℕ
-unmatched es = total (lacks es) es
+unmatched es = sum_by (lacks es) es
 
 -- "No index lies outside": a vertex from least on and below end, and every index of a list so.
 abbrev pub Inside : ℕ → ℕ → ℕ → Type 0

@@ -1,11 +1,7 @@
 -- Each body's list, with its first vertex added, is the list of its surface; and its counts are
 -- those of its surface. Assumes nothing.
-use mathlib.Core.Path.{◌≡◌, sym, ap, ◌∙◌}
-use mathlib.Core.Bool.{Bool, true, false, ◌&&◌}
-use mathlib.Core.List.{List, ◌++◌}
-use Prim.Native.Nat.{ℕ, ◌+◌, ◌*◌, ◌^◌}
-use lib.Dec.{leb}
-use native.Mathlib.Omega.{arith}
+use Rattle.std.proofs.Common.{◌≡◌, sym, ap, ◌∙◌, Bool, true, false, ◌&&◌, List, ◌++◌, ℕ, ◌+◌, ◌*◌}
+use Rattle.std.proofs.Common.{◌^◌, leb, arith}
 use Rattle.surface.specs.Triangles.{Triangle, shift}
 use Rattle.surface.specs.Limits.{fits}
 use Rattle.surface.specs.Whole.{surface_triangles, surface_vertex_count, surface_triangle_count, placeable}
@@ -69,38 +65,41 @@ closed-list n S first =
     ∙ ap (λ (l : List Triangle). shift first (bottom_triangles n) ++ l) (shift-append first (layers n S) (top_triangles n S))
     ∙ (λ j. bottom-list n first j ++ (layers-list n S first j ++ top-list n S first j))
 
-pub as-surface : (t : Topology) (first : ℕ) → shift first (triangles_of t) ≡ surface_triangles (surface_of t) first
+pub as_surface : (t : Topology) (first : ℕ) → shift first (triangles_of t) ≡ surface_triangles (surface_of t) first
 unfolding surface_triangles
-as-surface (Ribbon k) first = ribbon-list k.segments first
-as-surface (Tube k) first = tube-list k.divisions k.segments first
-as-surface (Capsule k) first = closed-list k.divisions (layers_of k) first
-as-surface (Torus k) first = torus-list k.divisions k.vertices first
-as-surface (ClosedCylinder k) first = closed-list k.divisions k.layers first
+as_surface (Ribbon k) first = ribbon-list k.segments first
+as_surface (Tube k) first = tube-list k.divisions k.segments first
+as_surface (Capsule k) first = closed-list k.divisions (layers_of k) first
+as_surface (Torus k) first = torus-list k.divisions k.vertices first
+as_surface (ClosedCylinder k) first = closed-list k.divisions k.layers first
 
-pub same-vertices : (t : Topology) → surface_vertex_count (surface_of t) ≡ vertex_count t
+pub same_vertices : (t : Topology) → surface_vertex_count (surface_of t) ≡ vertex_count t
 unfolding surface_vertex_count
-same-vertices (Ribbon k) = omega arith
-same-vertices (Tube k) = omega arith
-same-vertices (Capsule k) = omega arith
-same-vertices (Torus k) = omega arith
-same-vertices (ClosedCylinder k) = omega arith
+same_vertices (Ribbon k) = omega arith
+same_vertices (Tube k) = omega arith
+same_vertices (Capsule k) = omega arith
+same_vertices (Torus k) = omega arith
+same_vertices (ClosedCylinder k) = omega arith
 
-pub same-triangles : (t : Topology) → surface_triangle_count (surface_of t) ≡ triangle_count t
+pub same_triangles : (t : Topology) → surface_triangle_count (surface_of t) ≡ triangle_count t
 unfolding surface_triangle_count
-same-triangles (Ribbon k) = omega arith
-same-triangles (Tube k) = omega arith
-same-triangles (Capsule k) = omega arith
-same-triangles (Torus k) = omega arith
-same-triangles (ClosedCylinder k) = omega arith
+same_triangles (Ribbon k) = omega arith
+same_triangles (Tube k) = omega arith
+same_triangles (Capsule k) = omega arith
+same_triangles (Torus k) = omega arith
+same_triangles (ClosedCylinder k) = omega arith
 
-pub placeable-writable : (t : Topology) (first room : ℕ) → permitted t ≡ true
+-- what a body and its surface have in common
+pub ruleset its_surface = (as_surface, same_vertices, same_triangles)
+
+pub placeable_writable : (t : Topology) (first room : ℕ) → permitted t ≡ true
     → placeable (surface_of t) first room ≡ writable t first room
 unfolding placeable writable
-placeable-writable t first room p =
-    (λ j. leb (first + same-vertices t j) (2 ^ 28) && fits (same-triangles t j) room)
+placeable_writable t first room p =
+    (λ j. leb (first + same_vertices t j) (2 ^ 28) && fits (same_triangles t j) room)
     ∙ sym (ap (λ (b : Bool). b && (leb (first + vertex_count t) (2 ^ 28) && fits (triangle_count t) room)) p)
 
-pub not-writable : (t : Topology) (first room : ℕ) → permitted t ≡ false → false ≡ writable t first room
+pub not_writable : (t : Topology) (first room : ℕ) → permitted t ≡ false → false ≡ writable t first room
 unfolding writable
-not-writable t first room p =
+not_writable t first room p =
     sym (ap (λ (b : Bool). b && (leb (first + vertex_count t) (2 ^ 28) && fits (triangle_count t) room)) p)

@@ -1,9 +1,5 @@
 -- What a permitted body's numbers are, as inequalities. Assumes nothing.
-use mathlib.Core.Path.{◌≡◌}
-use mathlib.Core.Bool.{true, ◌&&◌}
-use Prim.Native.Nat.{ℕ, ◌+◌, ◌*◌, ◌≤◌}
-use borrow.Author.Tests.{leb-true}
-use lib.Dec.{leb}
+use Rattle.std.proofs.Common.{◌≡◌, true, ◌&&◌, ℕ, ◌+◌, ◌*◌, ◌≤◌, leb-true, leb}
 use Rattle.laws.proofs.Conjunction.{both_true}
 use Rattle.kinds.specs.Limits.{between, segment_count_permitted, loop_permitted, divisions_permitted}
 use Rattle.kinds.specs.Limits.{longitudes_permitted, layers_permitted}

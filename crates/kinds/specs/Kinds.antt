@@ -2,7 +2,7 @@
 -- triangles. Document 01, 'Triangle lists' and 'Refused, and through whom'. A torus here is of kind
 -- 4 or of kind 6, which "has kind 4's counts, triangles and limits" (document 02, No. 1).
 -- Definitions only.
-use Rattle.std.specs.Prelude.{◌≡◌, Bool, ◌&&◌, List, ℕ, ◌+◌, ◌-◌, ◌*◌, leb}
+use Rattle.std.specs.Prelude.{Bool, ◌&&◌, List, ℕ, ◌+◌, ◌-◌, ◌*◌, leb}
 use Rattle.surface.specs.Limits.{most_in_all, fits}
 use Rattle.surface.specs.Triangles.{Triangle}
 use Rattle.surface.specs.declared.grid.Chain as Chain
@@ -16,7 +16,6 @@ use Rattle.kinds.specs.Limits.{segment_count_permitted, loop_permitted, division
 use Rattle.kinds.specs.Limits.{longitudes_permitted, layers_permitted}
 use Rattle.kinds.specs.Lists.{closed_triangles, torus_triangles, tube_triangles, ribbon_triangles}
 use Rattle.kinds.specs.declared.capsule.Capsule as Capsules
-use Rattle.kinds.specs.declared.summary.Summary.{Summary}
 use Rattle.kinds.specs.declared.topology.Topology.{Topology}
 use Rattle.kinds.specs.declared.topology.Topology.TheVariants.{Ribbon, Tube, Capsule, Torus, ClosedCylinder}
 
@@ -57,12 +56,6 @@ triangles_of (Tube k) = tube_triangles k.divisions k.segments
 triangles_of (Capsule k) = closed_triangles k.divisions (layers_of k)
 triangles_of (Torus k) = torus_triangles k.divisions k.vertices
 triangles_of (ClosedCylinder k) = closed_triangles k.divisions k.layers
-
--- What a body's summary says: whether it is permitted, and its two counts.
-pub record Summarises (t : Topology) (s : Summary) : Type 0 where
-  pub permission : s.permitted ≡ permitted t
-  pub vertices : s.vertices ≡ vertex_count t
-  pub triangles : s.triangles ≡ triangle_count t
 
 -- Whether a body's triangles can be written alone, its first vertex numbered `first`, into a
 -- buffer of `room` numbers: it is permitted, its vertices do not "take their total above 2^28"

@@ -1,17 +1,15 @@
-ghost use Rattle.std.specs.Prelude.{◌≡◌, true};
-ghost use Rattle.kinds.specs.Kinds.{permitted, vertex_count, triangle_count, Summarises, surface_of};
+ghost use Rattle.std.specs.Prelude.{◌≡◌};
 ghost use Rattle.kinds.specs.Kinds.{steps_of, layers_of};
 ghost use Rattle.kinds.specs.Limits.{longitudes_permitted};
-ghost use Rattle.kinds.specs.declared.topology.Topology.{Topology};
+ghost use Rattle.kinds.specs.declared.topology.Topology.TheVariants as topology;
 
-use crate::limits;
-use crate::limits::Range;
-use crate::summary::Summary;
+use crate::body::Body;
+use crate::limits::{DIVISIONS, Range, SEGMENTS};
 use surface::{Chain, Ending, Split, Surface};
 
 // A capsule, by the divisions round it, the longitude divisions of each cap and the segments of
 // its curve.
-#[derive(Clone, Copy)]
+#[derive(Clone, Copy, Debug, PartialEq, Eq)]
 pub struct Capsule {
     pub divisions: u16,
     pub longitudes: u16,
@@ -19,32 +17,14 @@ pub struct Capsule {
 }
 
 impl Capsule {
-    pub const LEAST_DIVISIONS: u16 = limits::LEAST_DIVISIONS;
+    pub const DIVISIONS: Range = DIVISIONS;
 
-    pub const MOST_DIVISIONS: u16 = limits::MOST_DIVISIONS;
-
-    pub const LEAST_SEGMENTS: u16 = limits::LEAST_SEGMENTS;
-
-    pub const MOST_SEGMENTS: u16 = limits::MOST_SEGMENTS;
+    pub const SEGMENTS: Range = SEGMENTS;
 
     pub const MOST_LONGITUDES: u16 = 256;
+
     // Both caps and the segments together: fewer would leave no layer of quads.
     pub const LEAST_STEPS: u32 = 3;
-
-    pub fn is_permitted(self) -> bool
-        ensures { result ≡ permitted (Topology.Capsule self) }
-    {
-        let round = Range {
-            least: Self::LEAST_DIVISIONS,
-            most: Self::MOST_DIVISIONS,
-        };
-        let along = Range {
-            least: Self::LEAST_SEGMENTS,
-            most: Self::MOST_SEGMENTS,
-        };
-        limits::are_within(self.divisions, round, self.segments, along)
-            && Self::are_longitudes_permitted(self.longitudes as u32, self.segments)
-    }
 
     // Whether the longitude divisions are permitted, alone and together with the segments.
     pub fn are_longitudes_permitted(longitudes: u32, segments: u16) -> bool
@@ -66,45 +46,24 @@ impl Capsule {
     fn layers(self) -> u32
         ensures { result ≡ layers_of self }
     {
-        let steps = self.steps();
-        if steps < 2 {
-            return 0;
-        }
-        steps - 2
+        self.steps().saturating_sub(2)
+    }
+}
+
+impl Body for Capsule {
+    ghost topology = { topology.Capsule };
+
+    fn is_permitted(self) -> bool {
+        Self::DIVISIONS.contains(self.divisions as usize)
+            && Self::SEGMENTS.contains(self.segments as usize)
+            && Self::are_longitudes_permitted(self.longitudes as u32, self.segments)
     }
 
-    pub fn vertex_count(self) -> u64
-        ensures { result ≡ vertex_count (Topology.Capsule self) }
-    {
-        limits::product(self.divisions, self.layers() + 1) + 2
-    }
-
-    pub fn triangle_count(self) -> u64
-        ensures { result ≡ triangle_count (Topology.Capsule self) }
-    {
-        2 * limits::product(self.divisions, self.layers() + 1)
-    }
-
-    pub(crate) fn summary(self) -> Summary
-        ensures { Summarises (Topology.Capsule self) result }
-    {
-        Summary {
-            permitted: self.is_permitted(),
-            vertices: self.vertex_count(),
-            triangles: self.triangle_count(),
-        }
-    }
-
-    // The grid of quads that the body's list is made of.
-    pub(crate) fn surface(self) -> Surface
-        requires { permitted (Topology.Capsule self) ≡ true }
-        ensures { result ≡ surface_of (Topology.Capsule self) }
-    {
-        let layers = self.layers();
+    fn surface(self) -> Surface {
         Surface {
             split: Split::Capped,
             ending: Ending::Capped,
-            rows: layers as u16,
+            rows: self.layers(),
             round: Chain::Closed,
             columns: self.divisions,
         }

@@ -2,18 +2,19 @@
 // torus's.
 #![tactic(auto)]
 
+mod body;
 mod capsule;
 mod closed_cylinder;
 mod limits;
 mod ribbon;
-mod summary;
 mod topology;
 mod torus;
 mod tube;
 
+pub use body::Body;
 pub use capsule::Capsule;
 pub use closed_cylinder::ClosedCylinder;
-pub use limits::is_between;
+pub use limits::Range;
 pub use ribbon::Ribbon;
 pub use topology::Topology;
 pub use torus::Torus;

@@ -1,31 +1,27 @@
 -- Copies within a buffer: what they read, and what they leave. Assumes nothing.
-use mathlib.Core.Path.{◌≡◌, refl, sym, ap, ◌∙◌}
-use mathlib.Core.List.{List, [], ◌∷◌}
-use Prim.Native.Nat.{ℕ, ◌+◌, ◌-◌, ◌*◌, ◌≤◌, ◌<◌}
-use native.Mathlib.Omega.{arith}
-use borrow.Rule.Slice.PartMut.{put_same}
-use lib.ListN.{length, get_or, length-map}
+use Rattle.std.proofs.Common.{◌≡◌, refl, sym, ap, ◌∙◌, List, [], ◌∷◌, ◌++◌, ℕ, zero, suc, ◌+◌, ◌-◌, ◌*◌}
+use Rattle.std.proofs.Common.{◌≤◌, arith, length, take, drop, zero-add, take_at}
+use lib.ListN.{length-map}
 use Rattle.laws.specs.Overwrite.{overwrite}
-use Rattle.laws.proofs.Overwrite.{length-overwrite, overwrite-append, written_behind, get_or-before}
-use Rattle.laws.proofs.Lent.{lent-part, part-written}
+use Rattle.laws.proofs.Overwrite.{overwrite-none}
+use Rattle.laws.proofs.Lent.{part-written}
 use Rattle.laws.specs.Blocks.{blocks}
-use Rattle.laws.proofs.Blocks.{length-blocks, blocks-cong, blocks-split, map-blocks}
-use Rattle.laws.specs.Parts.{part}
-use Rattle.laws.proofs.Parts.{length_part, get_or-part}
+use Rattle.laws.proofs.Blocks.{length-blocks, blocks-cong, blocks-split, map-blocks, some_more}
 use Rattle.surface.specs.Raise.{raised, copy_of}
 
--- ---- a part of the buffer
+-- ---- a buffer in two parts
 
--- number k of a part that lies before a write's place is read as it was
-pub read-before : (at from size k : ℕ) (new l : List ℕ) → k < size → from + k < at
-    → get_or (overwrite at new l) (from + k) 0 ≡ get_or (part from size l) k 0
-read-before at from size k new l h b =
-    get_or-before at new l (from + k) 0 b ∙ sym (get_or-part from size l k 0 h)
+-- written to the front of the second part, numbers stand right behind the first
+pub joined : (at : ℕ) (new l : List ℕ) → take at l ++ overwrite 0 new (drop at l) ≡ overwrite at new l
+joined zero new l = refl
+joined (suc at) new [] = refl
+joined (suc at) new (n ∷ l) = ap (λ (r : List ℕ). n ∷ r) (joined at new l)
 
--- written where it stands, it changes nothing
-pub part-kept : (from size : ℕ) (l : List ℕ) → from + size ≤ length l → l ≡ overwrite from (part from size l) l
-part-kept from size l h =
-    sym (put_same from size l) ∙ lent-part from size (part from size l) l (length_part from size l h) h
+-- what a list begins with, written there, changes nothing
+pub front-kept : (size : ℕ) (l : List ℕ) → l ≡ overwrite 0 (take size l) l
+front-kept zero l = sym (overwrite-none 0 l)
+front-kept (suc size) [] = refl
+front-kept (suc size) (n ∷ l) = ap (λ (r : List ℕ). n ∷ r) (front-kept size l)
 
 -- ---- copies of a list
 
@@ -40,49 +36,37 @@ copy-later rise count k (n ∷ l) =
     let e : count * rise + (k * rise + n) ≡ (k + count) * rise + n =
     omega arith in λ i. e i ∷ copy-later rise count k l i
 
-module _ (at size rise : ℕ) (l t₀ : List ℕ) (sized : length l ≡ size) where
-  length-copy : (k : ℕ) → length (copy_of rise l k) ≡ size
-  length-copy k = length-map l (λ n. k * rise + n) ∙ sized
+module _ (size rise : ℕ) (l t₀ : List ℕ) (sized : length l ≡ size) where
+  length-copies : (n : ℕ) → length (blocks n (copy_of rise l)) ≡ n * size
+  length-copies n = length-blocks size n (copy_of rise l) (λ k _. length-map l (λ n. k * rise + n) ∙ sized)
 
-  -- where p + count copies are written, the last `count` stand right before the place where they
-  -- end
-  last-copies : (p count : ℕ) {t : List ℕ} → t ≡ overwrite at (blocks (p + count) (copy_of rise l)) t₀
-      → at + (p + count) * size ≤ length t₀
-      → part (at + p * size) (count * size) t ≡ blocks count (λ k. copy_of rise l (p + k))
-  last-copies p count {t} written h =
+  -- where `done` copies are written, the first `count` of them, raised by `done` rises, are the
+  -- next copies
+  pub next-copies : (done count : ℕ) {t : List ℕ} → count ≤ done
+      → t ≡ overwrite 0 (blocks done (copy_of rise l)) t₀ → done * size ≤ length t₀
+      → raised (done * rise) (take (count * size) (take (done * size) t)) ≡ blocks count (λ k. copy_of rise l (done + k))
+  next-copies done count {t} some written h =
       let f = copy_of rise l in
-      let more = blocks count (λ k. f (p + k)) in
-      let some = overwrite at (blocks p f) t₀ in
-      ap (λ (r : List ℕ). part (at + p * size) (count * size) r)
-      (written
-      ∙ ap (λ (r : List ℕ). overwrite at r t₀) (blocks-split p count f)
-      ∙ sym (overwrite-append at (blocks p f) more t₀)
-      ∙ ap (λ (k : ℕ). overwrite (at + k) more some) (length-blocks size p f (λ k _. length-copy k)))
-      ∙ part-written (at + p * size) (count * size) more some (length-blocks size count (λ k. f (p + k)) (λ k _. length-copy (p + k)))
-      (omega (arith, length-overwrite at (blocks p f) t₀))
+      let all : count + (done - count) ≡ done = omega arith in
+      let made : take (done * size) t ≡ blocks count f ++ blocks (done - count) (λ k. f (count + k)) =
+      ap (λ (r : List ℕ). take (done * size) r) written
+      ∙ part-written 0 (done * size) (blocks done f) t₀ (length-copies done) (omega arith)
+      ∙ ap (λ (k : ℕ). blocks k f) (sym all)
+      ∙ blocks-split count (done - count) f in
+      ap (λ (r : List ℕ). raised (done * rise) (take (count * size) r)) made
+      ∙ ap (λ (r : List ℕ). raised (done * rise) r)
+      (take_at (blocks count f) (blocks (done - count) (λ k. f (count + k))) (count * size) (length-copies count))
+      ∙ map-blocks (λ n. done * rise + n) count f
+      ∙ blocks-cong count (λ k. raised (done * rise) (f k)) (λ k. f (done + k))
+      (λ k _. copy-later rise done k l ∙ ap (λ (i : ℕ). f i) (omega arith))
 
-  -- and raised by `count` rises, they are the next copies
-  pub next-copies : (p count : ℕ) {done place : ℕ} {t : List ℕ} → p + count ≡ done
-      → t ≡ overwrite at (blocks done (copy_of rise l)) t₀
-      → place ≡ at + done * size → place ≤ length t₀
-      → raised (count * rise) (part (place - count * size) (count * size) t) ≡ blocks count (λ k. copy_of rise l (done + k))
-  next-copies p count {done} {place} {t} all written is h =
-      let f = copy_of rise l in
-      let rows : (p + count) * size ≡ done * size = ap (λ (k : ℕ). k * size) all in
-      let from : place - count * size ≡ at + p * size = omega arith in
-      ap (λ (k : ℕ). raised (count * rise) (part k (count * size) t)) from
-      ∙ ap (λ (r : List ℕ). raised (count * rise) r)
-      (last-copies p count (written ∙ ap (λ (k : ℕ). overwrite at (blocks k f) t₀) (sym all)) (omega arith))
-      ∙ map-blocks (λ n. count * rise + n) count (λ k. f (p + k))
-      ∙ blocks-cong count (λ k. raised (count * rise) (f (p + k))) (λ k. f (done + k))
-      (λ k _. copy-later rise count (p + k) l ∙ ap (λ (i : ℕ). f i) (omega arith))
-
-  -- written after the others, they and the others are one list
-  pub copies-after : (done count : ℕ) {place : ℕ} {t t' v : List ℕ}
-      → t ≡ overwrite at (blocks done (copy_of rise l)) t₀ → place ≡ at + done * size
-      → t' ≡ overwrite place v t → v ≡ blocks count (λ k. copy_of rise l (done + k)) → t' ≡ overwrite at (blocks (done + count) (copy_of rise l)) t₀
-  copies-after done count {t = t} before place written is =
-      let f = copy_of rise l in
-      written_behind at (blocks done f) (blocks count (λ k. f (done + k))) t₀ before (length-blocks size done f (λ k _. length-copy k))
-      (written ∙ (λ j. overwrite (place j) (is j) t))
-      ∙ ap (λ (r : List ℕ). overwrite at r t₀) (sym (blocks-split done count f))
+  -- written behind the others, they and the others are one list
+  pub copies-after : (done count : ℕ) {t ys v : List ℕ}
+      → t ≡ overwrite 0 (blocks done (copy_of rise l)) t₀ → ys ≡ overwrite 0 v (drop (done * size) t)
+      → v ≡ blocks count (λ k. copy_of rise l (done + k))
+      → take (done * size) t ++ ys ≡ overwrite 0 (blocks (done + count) (copy_of rise l)) t₀
+  copies-after done count {t} {v = v} before written is =
+      some_more 0 done count size (copy_of rise l) t₀ (λ k _. length-map l (λ n. k * rise + n) ∙ sized) before
+      (sym (zero-add (done * size)))
+      (ap (λ (r : List ℕ). take (done * size) t ++ r) written ∙ joined (done * size) v t)
+      is

@@ -1,13 +1,13 @@
 -- The numbers of a list of triangles, piece by piece. Assumes nothing.
-use mathlib.Core.Path.{◌≡◌, refl, sym, ap, ◌∙◌}
-use mathlib.Core.List.{List, [], ◌∷◌, ◌++◌}
-use Prim.Native.Nat.{ℕ, zero, suc, ◌+◌}
-use native.Mathlib.Nat.{zero-add}
-use lib.ListN.{length}
+use Rattle.std.proofs.Common.{◌-◌, ◌*◌, ◌≡◌, refl, sym, ap, ◌∙◌, List, [], ◌∷◌, ◌++◌, ℕ, zero, suc, ◌+◌}
+use Rattle.std.proofs.Common.{zero-add, length}
 use Rattle.laws.specs.Overwrite.{overwrite}
 use Rattle.laws.proofs.Overwrite.{overwrite-append}
 use Rattle.laws.specs.Blocks.{blocks}
-use Rattle.laws.proofs.Blocks.{all-written}
+use Rattle.laws.proofs.Blocks.{one_more, all-written}
+use Rattle.laws.proofs.Lent.{lent-from}
+use Rattle.laws.specs.Parts.{part}
+use borrow.Rule.Slice.PartMut.{put_mid}
 use Rattle.surface.specs.Triangles.{Triangle, triangle, flatten}
 
 pub flatten-append : (a b : List Triangle) → flatten (a ++ b) ≡ flatten a ++ flatten b
@@ -23,19 +23,30 @@ flatten-blocks zero f = refl
 flatten-blocks (suc n) f =
     flatten-append (blocks n f) (f n) ∙ ap (λ (l : List ℕ). l ++ flatten (f n)) (flatten-blocks n f)
 
--- what a loop leaves that writes the numbers of block after block, once its count is n
-pub blocks-written : (at : ℕ) (f : ℕ → List Triangle) (t₀ : List ℕ) {t : List ℕ} {i n : ℕ}
-    → t ≡ overwrite at (blocks i (numbers f)) t₀ → i ≡ n → t ≡ overwrite at (flatten (blocks n f)) t₀
-blocks-written at f t₀ {t} {i} {n} so e =
-    all-written at (numbers f) t₀ so e ∙ ap (λ (l : List ℕ). overwrite at l t₀) (sym (flatten-blocks n f))
+-- A turn of a loop that writes the c numbers of block after block: it lends what lies behind the
+-- blocks before, at whose front those of block i are written.
+pub turn : (c i : ℕ) (f : ℕ → List Triangle) (t₀ : List ℕ) {t ys v : List ℕ} {p : ℕ}
+    → ((k : ℕ) → length (numbers f k) ≡ c) → t ≡ overwrite 0 (blocks i (numbers f)) t₀ → p ≡ i * c
+    → ys ≡ overwrite 0 v (part p (length t - p) t) → v ≡ numbers f i
+    → put_mid p (length t - p) t ys ≡ overwrite 0 (blocks (i + 1) (numbers f)) t₀
+turn c i f t₀ {t = t} {v = v} {p = p} sized before place written is =
+    one_more 0 i c (numbers f) t₀ (λ k _. sized k) before (place ∙ sym (zero-add (i * c))) (lent-from p v t written) is
 
--- three lists of triangles, each written after the last, are one
-pub three-written : (a b c : List Triangle) (t₀ : List ℕ) {t₁ t₂ t₃ : List ℕ} {low high : ℕ}
-    → t₁ ≡ overwrite 0 (flatten a) t₀ → t₂ ≡ overwrite low (flatten b) t₁ → t₃ ≡ overwrite high (flatten c) t₂
-    → low ≡ length (flatten a) → high ≡ low + length (flatten b) → t₃ ≡ overwrite 0 (flatten (a ++ (b ++ c))) t₀
-three-written a b c t₀ {t₁} {t₂} {t₃} {low} {high} first second third l h =
-    third
-    ∙ (λ i. overwrite (h i) (flatten c) (second i))
+-- what such a loop leaves, once its count is n
+pub blocks-written : (f : ℕ → List Triangle) (t₀ : List ℕ) {t : List ℕ} {i n : ℕ}
+    → t ≡ overwrite 0 (blocks i (numbers f)) t₀ → i ≡ n → t ≡ overwrite 0 (flatten (blocks n f)) t₀
+blocks-written f t₀ {t} {i} {n} so e =
+    all-written 0 (numbers f) t₀ so e ∙ ap (λ (l : List ℕ). overwrite 0 l t₀) (sym (flatten-blocks n f))
+
+-- three lists of triangles, each written after the last, to the front of what is lent, are one
+pub three-written : (a b c : List Triangle) (t₀ : List ℕ) {t₁ ys zs : List ℕ} {low high : ℕ}
+    → let t₂ = put_mid low (length t₁ - low) t₁ ys in
+    t₁ ≡ overwrite 0 (flatten a) t₀ → ys ≡ overwrite 0 (flatten b) (part low (length t₁ - low) t₁)
+    → zs ≡ overwrite 0 (flatten c) (part high (length t₂ - high) t₂)
+    → low ≡ length (flatten a) → high ≡ low + length (flatten b) → put_mid high (length t₂ - high) t₂ zs ≡ overwrite 0 (flatten (a ++ (b ++ c))) t₀
+three-written a b c t₀ {t₁} {ys} {zs} {low} {high} first second third l h =
+    lent-from high (flatten c) (put_mid low (length t₁ - low) t₁ ys) third
+    ∙ (λ i. overwrite (h i) (flatten c) (lent-from low (flatten b) t₁ second i))
     ∙ overwrite-append low (flatten b) (flatten c) t₁
     ∙ (λ i. overwrite ((l ∙ sym (zero-add (length (flatten a)))) i) (flatten b ++ flatten c) (first i))
     ∙ overwrite-append 0 (flatten a) (flatten b ++ flatten c) t₀

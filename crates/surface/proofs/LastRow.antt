@@ -1,10 +1,6 @@
 -- A grid is the rows whose rings follow one another and, where it is closed, a last row that leads
 -- back to the first ring. Assumes nothing.
-use mathlib.Core.Path.{◌≡◌, sym, ap, ◌∙◌}
-use mathlib.Core.List.{◌++◌}
-use Prim.Native.Nat.{ℕ, ◌+◌, ◌*◌, ◌<◌}
-use native.Mathlib.Numerals.{add-one}
-use native.Mathlib.Omega.{arith}
+use Rattle.std.proofs.Common.{◌≡◌, sym, ap, ◌∙◌, ◌++◌, ℕ, ◌+◌, ◌*◌, ◌<◌, add-one, arith}
 use Rattle.laws.specs.Blocks.{blocks}
 use Rattle.laws.proofs.Blocks.{blocks-cong}
 use Rattle.surface.specs.Grid.{after_of, points_of, straight_of, row_triangles, grid_triangles}

@@ -1,12 +1,9 @@
 -- What each turn and each call of the writers writes: quads, rows, triangles of a cap, caps and
 -- grids, and how many numbers each has. Assumes nothing.
-use mathlib.Core.Path.{◌≡◌, refl, ap, ◌∙◌}
-use mathlib.Core.Bool.{true, false}
-use mathlib.Core.List.{List, [], ◌∷◌, ◌++◌}
-use Prim.Native.Nat.{ℕ, ◌+◌, ◌*◌}
-use lib.ListN.{length}
+use Rattle.std.proofs.Common.{◌≡◌, refl, ap, ◌∙◌, true, false, List, [], ◌∷◌, ◌++◌, ℕ, ◌+◌, ◌*◌}
+use Rattle.std.proofs.Common.{length, flat_map, append-nil}
 use Rattle.laws.proofs.Blocks.{length-blocks}
-use Rattle.surface.specs.Triangles.{Triangle, flatten, rows, row_of, rows_of}
+use Rattle.surface.specs.Triangles.{Triangle, triangle, flatten, rows}
 use Rattle.surface.specs.Quads.{quad_of}
 use Rattle.surface.specs.Grid.{after_of, points_of, row_triangles, grid_triangles}
 use Rattle.surface.specs.Caps.{cap_triangle, cap_triangles}
@@ -22,11 +19,10 @@ use Rattle.surface.proofs.Flatten.{numbers, flatten-blocks}
 
 -- ---- one quad of a row
 
-quad-numbers : (split : Split) (a b d e : ℕ) → rows_of (rows (quad_of split a b d e)) ≡ flatten (quad_of split a b d e)
-quad-numbers Capped a b d e = refl
-quad-numbers Torus a b d e = refl
-quad-numbers Tube a b d e = refl
-quad-numbers Ribbon a b d e = refl
+-- the numbers of triangles that come as rows of three
+rows-numbers : (ts : List Triangle) → flat_map (λ t. t) (rows ts) ≡ flatten ts
+rows-numbers [] = refl
+rows-numbers (triangle a b c ∷ ts) = ap (λ (l : List ℕ). a ∷ b ∷ c ∷ l) (rows-numbers ts)
 
 length-quad : (split : Split) (a b d e : ℕ) → length (flatten (quad_of split a b d e)) ≡ 6
 length-quad Capped a b d e = refl
@@ -40,10 +36,11 @@ module _ (split : Split) (round : Chain) (n : ℕ) where
 
   -- a turn that takes the point after i for j writes quad i
   pub quad-written : (low high i : ℕ) {j : ℕ} {q : List (List ℕ)}
-      → q ≡ rows (quad_of split (low + i) (low + j) (high + i) (high + j)) → j ≡ after_of round n i → rows_of q ≡ numbers (quad_at low high) i
+      → q ≡ rows (quad_of split (low + i) (low + j) (high + i) (high + j)) → j ≡ after_of round n i
+      → flat_map (λ t. t) q ≡ numbers (quad_at low high) i
   quad-written low high i {j} {q} is next =
-      ap rows_of is
-      ∙ quad-numbers split (low + i) (low + j) (high + i) (high + j)
+      ap (λ (r : List (List ℕ)). flat_map (λ t. t) r) is
+      ∙ rows-numbers (quad_of split (low + i) (low + j) (high + i) (high + j))
       ∙ ap (λ (x : ℕ). flatten (quad_of split (low + i) (low + x) (high + i) (high + x))) next
 
   pub length-quad_at : (low high i : ℕ) → length (numbers (quad_at low high) i) ≡ 6
@@ -75,20 +72,16 @@ length-cap-triangle : (end : End) (pole here next : ℕ) → length (flatten (ca
 length-cap-triangle Bottom pole here next = refl
 length-cap-triangle Top pole here next = refl
 
-cap-numbers : (end : End) (pole here next : ℕ)
-    → row_of (flatten (cap_triangle end pole here next ∷ [])) ≡ flatten (cap_triangle end pole here next ∷ [])
-cap-numbers Bottom pole here next = refl
-cap-numbers Top pole here next = refl
-
 module _ (end : End) (n pole rim : ℕ) where
   abbrev pub cap_at : ℕ → List Triangle
   cap_at i = cap_triangle end pole (rim + i) (rim + after_of Closed n i) ∷ []
 
   -- a turn that takes the point after i for j writes triangle i
   pub cap-written : (i : ℕ) {j : ℕ} {t : List ℕ}
-      → t ≡ flatten (cap_triangle end pole (rim + i) (rim + j) ∷ []) → j ≡ after_of Closed n i → row_of t ≡ numbers cap_at i
+      → t ≡ flatten (cap_triangle end pole (rim + i) (rim + j) ∷ []) → j ≡ after_of Closed n i
+      → flat_map (λ t. t) (t ∷ []) ≡ numbers cap_at i
   cap-written i {j} {t} is next =
-      ap row_of is ∙ cap-numbers end pole (rim + i) (rim + j) ∙ ap (λ (x : ℕ). flatten (cap_triangle end pole (rim + i) (rim + x) ∷ [])) next
+      append-nil t ∙ is ∙ ap (λ (x : ℕ). flatten (cap_triangle end pole (rim + i) (rim + x) ∷ [])) next
 
   pub length-cap_at : (i : ℕ) → length (numbers cap_at i) ≡ 3
   length-cap_at i = length-cap-triangle end pole (rim + i) (rim + after_of Closed n i)

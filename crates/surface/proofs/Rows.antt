@@ -1,16 +1,11 @@
 -- Rows whose rings follow one another: each is the first one raised. Assumes nothing.
-use mathlib.Core.Path.{◌≡◌, refl, sym, ap, ◌∙◌, subst}
-use mathlib.Core.List.{List}
-use Prim.Native.Nat.{ℕ, ◌+◌, ◌*◌, ◌≤◌, ◌<◌}
-use native.Mathlib.Nat.{mul-le-mul_right}
-use native.Mathlib.Omega.{arith}
-use lib.ListN.{length}
+use Rattle.std.proofs.Common.{take, ◌≡◌, refl, sym, ap, ◌∙◌, subst, List, ℕ, ◌+◌, ◌*◌, ◌≤◌, ◌<◌}
+use Rattle.std.proofs.Common.{take, mul-le-mul_right, arith, length}
 use Rattle.laws.specs.Overwrite.{overwrite}
 use Rattle.laws.proofs.Overlaps.{overwrite-cover}
 use Rattle.laws.specs.Blocks.{blocks}
 use Rattle.laws.proofs.Blocks.{blocks-cong, map-blocks}
 use Rattle.laws.proofs.Lent.{part-written}
-use Rattle.laws.specs.Parts.{part}
 use Rattle.surface.specs.Triangles.{flatten}
 use Rattle.surface.specs.Quads.{quad_of}
 use Rattle.surface.specs.Grid.{after_of, points_of, row_triangles, grid_triangles}
@@ -65,16 +60,16 @@ module _ (split : Split) (round : Chain) (n : ℕ) where
       subst (λ (r : List ℕ). Below bound r) (sym (copied-row m base g)) (below_row split round n bound (base + g * w) (base + (g + 1) * w) (omega arith) (omega arith))
 
   -- the first row, read back where it was written
-  pub first_read : (at base : ℕ) (t₀ : List ℕ) {t : List ℕ} → t ≡ overwrite at (first_row base) t₀
-      → at + n * 6 ≤ length t₀ → part at (n * 6) t ≡ first_row base
-  first_read at base t₀ written h =
-      ap (λ (r : List ℕ). part at (n * 6) r) written
-      ∙ part-written at (n * 6) (first_row base) t₀ (length-row split round n base (base + points_of round n)) h
+  pub first_read : (base : ℕ) (t₀ : List ℕ) {t : List ℕ} → t ≡ overwrite 0 (first_row base) t₀
+      → n * 6 ≤ length t₀ → take (n * 6) t ≡ first_row base
+  first_read base t₀ written h =
+      ap (λ (r : List ℕ). take (n * 6) r) written
+      ∙ part-written 0 (n * 6) (first_row base) t₀ (length-row split round n base (base + points_of round n)) (omega arith)
 
   -- the first row and its copies are the rows
-  pub rows_written : (m at base : ℕ) (t₀ : List ℕ) {t t' : List ℕ} → 0 < m → t ≡ overwrite at (first_row base) t₀
-      → t' ≡ overwrite at (blocks m (copy_of (points_of round n) (first_row base))) t → t' ≡ overwrite at (flatten (grid_triangles split Open m round n base)) t₀
-  rows_written m at base t₀ some first copies =
+  pub rows_written : (m base : ℕ) (t₀ : List ℕ) {t t' : List ℕ} → 0 < m → t ≡ overwrite 0 (first_row base) t₀
+      → t' ≡ overwrite 0 (blocks m (copy_of (points_of round n) (first_row base))) t → t' ≡ overwrite 0 (flatten (grid_triangles split Open m round n base)) t₀
+  rows_written m base t₀ some first copies =
       let f = row_at split round n Open m base in
       let w = points_of round n in
       let all = flatten (blocks m f) in
@@ -83,5 +78,5 @@ module _ (split : Split) (round : Chain) (n : ℕ) where
       let one = length-row split round n base (base + w) in
       let sized = length-grid split round n Open m base in
       copies
-      ∙ (λ k. overwrite at (is k) (first k))
-      ∙ overwrite-cover at (first_row base) all t₀ (omega (arith, mul-le-mul_right (n * 6) some))
+      ∙ (λ k. overwrite 0 (is k) (first k))
+      ∙ overwrite-cover 0 (first_row base) all t₀ (omega (arith, mul-le-mul_right (n * 6) some))

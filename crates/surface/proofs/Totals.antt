@@ -1,9 +1,5 @@
 -- What a number that fits is. Assumes nothing.
-use mathlib.Core.Path.{◌≡◌}
-use mathlib.Core.Bool.{true}
-use Prim.Native.Nat.{ℕ, ◌*◌, ◌^◌, ◌≤◌}
-use borrow.Author.Tests.{leb-true}
-use lib.Dec.{leb}
+use Rattle.std.proofs.Common.{◌≡◌, true, ℕ, ◌*◌, ◌^◌, ◌≤◌, leb-true, leb}
 use Rattle.laws.proofs.Conjunction.{both_true}
 use Rattle.surface.specs.Limits.{fits}
 

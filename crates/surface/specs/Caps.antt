@@ -17,8 +17,7 @@ cap_triangle Top pole here next = triangle pole next here
 abbrev pub cap_triangles : End → ℕ → ℕ → ℕ → List Triangle
 cap_triangles end n pole rim = blocks n (λ i. cap_triangle end pole (rim + i) (rim + after_of Closed n i) ∷ [])
 
--- What a cap's writer asks: its vertices are numbered below `most_in_all`, and its place lies
--- within the buffer.
-pub record CapFits (n rim at room : ℕ) : Type 0 where
+-- What a cap's writer asks: its vertices are numbered below `most_in_all`, and the buffer has room.
+pub record CapFits (n rim room : ℕ) : Type 0 where
   pub rim-numbers : rim + n ≤ most_in_all
-  pub within : at + n * 3 ≤ room
+  pub within : n * 3 ≤ room

@@ -36,15 +36,14 @@ grid_triangles split along m round n base =
     let w = points_of round n in
     blocks m (λ g. row_triangles split round n (base + g * w) (base + after_of along m g * w))
 
--- What a row's writer asks: its vertices are numbered below `most_in_all`, and its place lies
--- within the buffer.
-pub record RowFits (round : Chain) (n low high at room : ℕ) : Type 0 where
+-- What a row's writer asks: its vertices are numbered below `most_in_all`, and the buffer has room.
+pub record RowFits (round : Chain) (n low high room : ℕ) : Type 0 where
   pub low-numbers : low + points_of round n ≤ most_in_all
   pub high-numbers : high + points_of round n ≤ most_in_all
-  pub within : at + n * 6 ≤ room
+  pub within : n * 6 ≤ room
 
 -- What the writer of m rows asks whose rings follow one another. Where there is no row, there need
 -- be no ring.
-pub record RowsFit (round : Chain) (m n base at room : ℕ) : Type 0 where
+pub record RowsFit (round : Chain) (m n base room : ℕ) : Type 0 where
   pub numbers : 0 < m → base + (m + 1) * points_of round n ≤ most_in_all
-  pub within : at + m * n * 6 ≤ room
+  pub within : m * n * 6 ≤ room

@@ -1,6 +1,5 @@
 -- Numbers of a buffer copied within it, with the same number added to each. Definitions only.
-use Rattle.std.specs.Prelude.{List, [], ◌∷◌, map, ℕ, ◌+◌, ◌-◌, ◌*◌, ◌≤◌, ◌<◌, length}
-use Rattle.laws.specs.Parts.{part}
+use Rattle.std.specs.Prelude.{List, [], ◌∷◌, map, take, ℕ, ◌+◌, ◌*◌, ◌≤◌, ◌<◌, length}
 use Rattle.surface.specs.Limits.{most_in_all}
 
 abbrev pub raised : ℕ → List ℕ → List ℕ
@@ -15,16 +14,14 @@ abbrev pub Below : ℕ → List ℕ → Type 0
 Below bound [] = Unit {0}
 Below bound (n ∷ l) = (n < bound) × Below bound l
 
--- What one copy asks: it is made of what lies before it, has room, and its numbers are below
--- `most_in_all`.
-pub record RaiseFits (at size rise : ℕ) (l : List ℕ) : Type 0 where
-  pub before : size ≤ at
-  pub within : at + size ≤ length l
-  pub numbers : Below most_in_all (raised rise (part (at - size) size l))
+-- What one copy asks: it has room, and its numbers are below `most_in_all`.
+pub record RaiseFits (rise : ℕ) (from : List ℕ) (room : ℕ) : Type 0 where
+  pub within : length from ≤ room
+  pub numbers : Below most_in_all (raised rise from)
 
--- What `times` copies, each right after the last, ask.
-pub record RepeatFits (at size times rise : ℕ) (l : List ℕ) : Type 0 where
+-- What `times` copies of the first `size` numbers, each right after the last, ask.
+pub record RepeatFits (size times rise : ℕ) (l : List ℕ) : Type 0 where
   pub some : 0 < times
-  pub within : at + times * size ≤ length l
+  pub within : times * size ≤ length l
   pub rises : times * rise ≤ most_in_all
-  pub numbers : (k : ℕ) → k < times → Below most_in_all (copy_of rise (part at size l) k)
+  pub numbers : (k : ℕ) → k < times → Below most_in_all (copy_of rise (take size l) k)

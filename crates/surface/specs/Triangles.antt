@@ -1,6 +1,6 @@
 -- Triangles and the numbers that a buffer holds of them. Document 01, 'Triangle lists' and 'The
 -- shared set'. Definitions only.
-use Rattle.std.specs.Prelude.{List, [], ◌∷◌, ◌++◌, ℕ, ◌+◌, get_or}
+use Rattle.std.specs.Prelude.{List, [], ◌∷◌, ℕ, ◌+◌}
 
 -- Triangle (a, b, c).
 pub data Triangle : Type 0 where
@@ -21,10 +21,3 @@ shift first (triangle a b c ∷ ts) = triangle (first + a) (first + b) (first + 
 abbrev pub rows : List Triangle → List (List ℕ)
 rows [] = []
 rows (triangle a b c ∷ ts) = (a ∷ b ∷ c ∷ []) ∷ rows ts
-
--- the numbers of one row, and of two
-abbrev pub row_of : List ℕ → List ℕ
-row_of r = get_or r 0 0 ∷ get_or r 1 0 ∷ get_or r 2 0 ∷ []
-
-abbrev pub rows_of : List (List ℕ) → List ℕ
-rows_of q = row_of (get_or q 0 []) ++ row_of (get_or q 1 [])

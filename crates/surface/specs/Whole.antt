@@ -58,7 +58,13 @@ surface_triangle_count s = 2 * (s.rows * s.columns) + cond (is_capped s.ending) 
 unfoldable pub placeable : Surface → ℕ → ℕ → Bool
 placeable s first room = leb (first + surface_vertex_count s) most_in_all && fits (surface_triangle_count s) room
 
+-- What the writer of a whole surface asks: its vertices are numbered below `most_in_all`, and its
+-- triangles lie within the buffer.
+pub record SurfaceFits (s : Surface) (first room : ℕ) : Type 0 where
+  pub numbers : first + surface_vertex_count s ≤ most_in_all
+  pub within : 3 * surface_triangle_count s ≤ room
+
 -- What the grid's writer asks.
-pub record GridFits (s : Surface) (base at room : ℕ) : Type 0 where
+pub record GridFits (s : Surface) (base room : ℕ) : Type 0 where
   pub numbers : base + grid_size s ≤ most_in_all
-  pub within : at + s.rows * s.columns * 6 ≤ room
+  pub within : s.rows * s.columns * 6 ≤ room

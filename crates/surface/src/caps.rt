@@ -3,11 +3,11 @@ ghost use Rattle.laws.specs.Overwrite.{overwrite};
 ghost use Rattle.surface.specs.Triangles.{flatten};
 ghost use Rattle.surface.specs.Caps.{cap_triangle, cap_triangles, CapFits};
 
-use crate::grid::{Chain, after};
-use crate::quads::put_triangle;
+use crate::grid::Chain;
+use crate::quads::put;
 
 // The two ends of a capped surface.
-#[derive(Clone, Copy)]
+#[derive(Clone, Copy, Debug, PartialEq, Eq)]
 pub enum End {
     Bottom,
     Top,
@@ -23,18 +23,15 @@ pub fn cap_triangle(end: End, pole: u32, here: u32, next: u32) -> [u32; 3]
     }
 }
 
-// Writes the cap between `pole` and a ring of `n` vertices, whose first is `rim`, from place `at`
-// on.
-pub(crate) fn write_cap(out: &mut [u32], at: usize, end: End, n: u32, pole: u32, rim: u32)
-    requires { CapFits n rim at (length out.old) }
-    ensures { out.new ≡ overwrite at (flatten (cap_triangles end n pole rim)) out.old }
+// Writes the cap between `pole` and a ring of `n` vertices, whose first is `rim`, to the front of
+// `out`.
+pub(crate) fn write_cap(out: &mut [u32], end: End, n: u32, pole: u32, rim: u32)
+    requires { CapFits n rim (length out.old) }
+    ensures { out.new ≡ overwrite 0 (flatten (cap_triangles end n pole rim)) out.old }
 {
-    let mut place = at;
-    let mut i: u32 = 0;
-    while i < n {
-        let j = after(Chain::Closed, n, i);
-        put_triangle(out, place, cap_triangle(end, pole, rim + i, rim + j));
-        place += 3;
-        i += 1;
+    for i in 0..n {
+        let next = Chain::Closed.after(n, i);
+        let triangle = cap_triangle(end, pole, rim + i, rim + next);
+        put(&mut out[3 * i as usize..], [triangle]);
     }
 }

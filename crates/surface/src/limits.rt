@@ -7,6 +7,7 @@ pub const MOST_IN_ALL: usize = 1 << 28;
 
 // Whether a set may have `total` vertices, or triangles, in a buffer of `room` elements: each
 // takes three of them. The limit is tested first, so that the product does not wrap.
+#[tactic(auto, unfolding(crate::specs::Limits::fits))]
 pub fn fits(total: u64, room: usize) -> bool
     ensures { result ≡ fits total room }
 {

@@ -1,11 +1,12 @@
-ghost use Rattle.std.specs.Prelude.{◌≡◌, ◌+◌, ◌≤◌, length};
+ghost use Rattle.std.specs.Prelude.{◌≡◌, ◌*◌, ◌≤◌, length};
+ghost use Rattle.std.specs.List.{flat_map};
 ghost use Rattle.laws.specs.Overwrite.{overwrite};
-ghost use Rattle.surface.specs.Triangles.{rows, row_of, rows_of};
+ghost use Rattle.surface.specs.Triangles.{rows};
 ghost use Rattle.surface.specs.Quads.{quad_of};
 
 // How a quad is cut into its two triangles, named after the bodies whose lists have it. Capsule
 // and closed cylinder are the capped ones.
-#[derive(Clone, Copy)]
+#[derive(Clone, Copy, Debug, PartialEq, Eq)]
 pub enum Split {
     Capped,
     Torus,
@@ -26,21 +27,11 @@ pub fn quad(split: Split, a: u32, b: u32, d: u32, e: u32) -> [[u32; 3]; 2]
     }
 }
 
-// Copies a triangle to place `at`.
-pub(crate) fn put_triangle(out: &mut [u32], at: usize, t: [u32; 3])
-    requires { at + 3 ≤ length out.old }
-    ensures { out.new ≡ overwrite at (row_of t) out.old }
+// Copies triangles to the front of `out`. Rows and caps call it in loops of their own: one writer
+// for both would take a closure that makes `N` triangles, and no bound `Fn` may name such an `N`.
+pub(crate) fn put<const N: usize>(out: &mut [u32], triangles: [[u32; 3]; N])
+    requires { 3 * N ≤ length out.old }
+    ensures { out.new ≡ overwrite 0 (flat_map (λ t. t) triangles.entry) out.old }
 {
-    out[at] = t[0];
-    out[at + 1] = t[1];
-    out[at + 2] = t[2];
-}
-
-// Copies the two triangles of a quad to place `at`.
-pub(crate) fn put_quad(out: &mut [u32], at: usize, q: [[u32; 3]; 2])
-    requires { at + 6 ≤ length out.old }
-    ensures { out.new ≡ overwrite at (rows_of q) out.old }
-{
-    put_triangle(out, at, q[0]);
-    put_triangle(out, at + 3, q[1]);
+    out[..3 * N].copy_from_slice(triangles.as_flattened());
 }

@@ -1,14 +1,11 @@
 -- A permitted body is written as its surface is; the lists are one. Assumes nothing.
-use mathlib.Core.Path.{◌≡◌, refl, sym, ap, ◌∙◌}
-use mathlib.Core.Bool.{true}
-use mathlib.Core.List.{List}
-use lib.ListN.{length}
+use Rattle.std.proofs.Common.{◌≡◌, refl, sym, ap, ◌∙◌, true, List, length}
 use Rattle.surface.specs.Triangles.{Triangle, flatten}
 use Rattle.laws.specs.Overwrite.{placed}
 use Rattle.surface.specs.Whole.{surface_triangles, placeable}
 use Rattle.surface.specs.declared.whole.Surface.{Surface}
 use Rattle.kinds.specs.Kinds.{permitted}
-use Rattle.kinds.proofs.AsSurface.{as-surface, placeable-writable, not-writable}
+use Rattle.kinds.proofs.AsSurface.{as_surface, placeable_writable, not_writable}
 use Rattle.kinds.proofs.topology.Topology.write_triangles.Goals as goal
 
 pub returns-then-is_permitted : goal.returns-then-is_permitted
@@ -19,15 +16,15 @@ returns-then-is_permitted c = let a = c.args in
     record {
       answer = w.ensures.answer
           ∙ ap (λ (x : Surface). placeable x a.first (length a.out.now)) s
-          ∙ placeable-writable a.self a.first (length a.out.now) p;
+          ∙ placeable_writable a.self a.first (length a.out.now) p;
       written = w.ensures.written
           ∙ ap (λ (x : Surface). placed w.result (flatten (surface_triangles x a.first)) a.out.now) s
-          ∙ ap (λ (l : List Triangle). placed w.result (flatten l) a.out.now) (sym (as-surface a.self a.first));
+          ∙ ap (λ (l : List Triangle). placed w.result (flatten l) a.out.now) (sym (as_surface a.self a.first));
     }
 
 pub returns : goal.returns
 returns c = let a = c.args in
     record {
-      answer = not-writable a.self a.first (length a.out.now) (sym c.is_permitted.ensures ∙ c.if-is_permitted.false);
+      answer = not_writable a.self a.first (length a.out.now) (sym c.is_permitted.ensures ∙ c.if-is_permitted.false);
       written = refl;
     }

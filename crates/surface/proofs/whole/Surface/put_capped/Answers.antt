@@ -1,75 +1,94 @@
 -- Bottom cap, grid and top cap, each written after the last. Assumes nothing.
-use mathlib.Core.Path.{◌≡◌, sym, ap, ◌∙◌}
-use mathlib.Core.List.{◌++◌}
-use Prim.Native.Nat.{◌+◌, ◌*◌, ◌^◌, ◌≤◌}
-use native.Mathlib.Omega.{arith}
-use lib.ListN.{length}
+use Rattle.std.proofs.Common.{rules, ◌++◌, ◌≡◌, ℕ, sym, ap, ◌∙◌, ◌+◌, ◌-◌, ◌*◌, ◌^◌, ◌≤◌, arith, length}
 use Rattle.laws.specs.Overwrite.{overwrite}
 use Rattle.surface.specs.Triangles.{flatten}
 use Rattle.surface.specs.Whole.{chain_of, ring_size, grid_size, surface_grid}
-use Rattle.surface.specs.declared.caps.End.TheVariants.{Bottom}
+use Rattle.surface.specs.Caps.{cap_triangles}
+use Rattle.surface.specs.declared.caps.End.TheVariants.{Bottom, Top}
 use Rattle.surface.proofs.Flatten.{three-written}
-use Rattle.surface.proofs.Pieces.{length-cap, length-grid, bottom_of, top_of, capped-parts}
+use Rattle.surface.proofs.Pieces.{length-cap, length-grid, bottom_of, capped-parts}
 use Rattle.surface.proofs.Room.{capped_fits}
 use Rattle.surface.proofs.whole.Surface.put_capped.Goals as goal
-use Rattle.surface.proofs.whole.Surface.put_capped.Goals.{After-ring_count}
+use Rattle.surface.proofs.whole.Surface.put_capped.Goals.{After-vertex_count}
 
--- how far the top pole and the last ring lie past the first ring
-to-pole : (c : After-ring_count) → c.ring_count.result * c.ring_size-ring.result ≡ grid_size c.args.self
-to-pole c = λ i. c.ring_count.ensures i * c.ring_size-ring.ensures i
-
-to-rim : (c : After-ring_count) → let s = c.args.self in s.rows * c.ring_size-ring.result ≡ s.rows * ring_size s
-to-rim c = ap (λ k. c.args.self.rows * k) c.ring_size-ring.ensures
-
--- the numbers and the places are within bounds
-room : (c : After-ring_count) → let a = c.args in
+-- what the surface's counts are
+counts : (c : After-vertex_count) → let a = c.args in
     let s = a.self in
-    let r = c.ring_size-ring.result in
-    (a.first + 1 + c.ring_count.result * r ≤ 2 ^ 28)
-    × (a.first + 1 + s.rows * r + s.columns ≤ 2 ^ 28)
+    (c.vertex_count.result ≡ grid_size s + 2)
+    × (grid_size s ≡ s.rows * ring_size s + ring_size s)
+    × (a.first + 1 + grid_size s ≤ 2 ^ 28)
+    × (s.columns ≤ ring_size s)
     × (s.columns * 3 + s.rows * s.columns * 6 + s.columns * 3 ≤ length a.out.now)
-room c = let a = c.args in
-    let p = c.requires in
-    omega (arith, to-pole c, to-rim c, capped_fits a.self a.first (length a.out.now) p.numbers p.within p.capped)
+counts c = let a = c.args in
+    let f = capped_fits a.self a.first (length a.out.now) c.requires.room c.requires.capped in
+    (omega arith, f.1, f.2, f.3, f.4)
 
-pub overflow_mul-pole : goal.overflow_mul-pole
-overflow_mul-pole c = omega (arith, room (goal.at.overflow_mul-pole c).After-ring_count)
+-- the top pole comes right after the rings, and the last ring right before it
+pole : (c : After-vertex_count) → let a = c.args in
+    a.first + c.vertex_count.result - 1 ≡ a.first + 1 + grid_size a.self
+pole c = omega (arith, counts c)
 
-pub overflow_add-pole : goal.overflow_add-pole
-overflow_add-pole c = omega (arith, room (goal.at.overflow_add-pole c).After-ring_count)
+rim : (c : After-vertex_count) → let a = c.args in
+    let s = a.self in
+    a.first + c.vertex_count.result - 1 - ring_size s ≡ a.first + 1 + s.rows * ring_size s
+rim c = omega (arith, counts c)
 
-pub overflow_add-rim : goal.overflow_add-rim
-overflow_add-rim c = omega (arith, room (goal.at.overflow_add-rim c).After-ring_count)
+pub overflow_sub-pole : goal.overflow_sub-pole
+overflow_sub-pole c = omega (arith, counts (goal.at.overflow_sub-pole c).After-vertex_count)
+
+pub overflow_sub-rim : goal.overflow_sub-rim
+overflow_sub-rim c = omega (arith, counts (goal.at.overflow_sub-rim c).After-vertex_count)
+
+pub slice_bounds-write_grid-count : goal.slice_bounds-write_grid-count
+slice_bounds-write_grid-count c =
+    let f = counts (goal.at.slice_bounds-write_grid-count c).After-vertex_count in
+    omega arith
+
+pub slice_bounds-write_grid-start : goal.slice_bounds-write_grid-start
+slice_bounds-write_grid-start c =
+    let f = counts (goal.at.slice_bounds-write_grid-start c).After-vertex_count in
+    search rules
+
+pub slice_bounds-write_cap-count : goal.slice_bounds-write_cap-count
+slice_bounds-write_cap-count c =
+    let f = counts (goal.at.slice_bounds-write_cap-count c).After-vertex_count in
+    search rules
+
+pub slice_bounds-write_cap-start : goal.slice_bounds-write_cap-start
+slice_bounds-write_cap-start c =
+    let f = counts (goal.at.slice_bounds-write_cap-start c).After-vertex_count in
+    search rules
 
 pub write_cap-requires : goal.write_cap-requires
-write_cap-requires c = let f = room (goal.at.write_cap-requires c).After-ring_count in record { rim-numbers = omega arith; within = omega arith }
+write_cap-requires c =
+    let f = counts (goal.at.write_cap-requires c).After-vertex_count in
+    record { rim-numbers = omega arith; within = omega arith }
 
 pub write_grid-requires : goal.write_grid-requires
 write_grid-requires c =
-    let f = room (goal.at.write_grid-requires c).After-ring_count in
-    let p = to-pole (goal.at.write_grid-requires c).After-ring_count in
+    let f = counts (goal.at.write_grid-requires c).After-vertex_count in
     record { numbers = omega arith; within = omega arith }
 
 pub write_cap-requires-2 : goal.write_cap-requires-2
 write_cap-requires-2 c =
-    let f = room (goal.at.write_cap-requires-2 c).After-ring_count in
+    let f = counts (goal.at.write_cap-requires-2 c).After-vertex_count in
     record { rim-numbers = omega arith; within = omega arith }
 
 pub returns : goal.returns
-returns c = let m = (goal.at.returns c).After-ring_count in
+returns c = let m = (goal.at.returns c).After-vertex_count in
     let a = c.args in
     let s = a.self in
     let t₀ = a.out.now in
-    let ring = c.ring_size-ring.result in
-    let pole = to-pole m in
-    let rim = to-rim m in
+    let side = a.first + 1 in
+    let to-rim = ap (λ (w : ℕ). a.first + c.vertex_count.result - 1 - w) c.ring_size.ensures ∙ rim m in
     let bottom = bottom_of s a.first in
-    let grid = surface_grid s (a.first + 1) in
-    three-written bottom grid (top_of s a.first (c.ring_count.result * ring) (s.rows * ring)) t₀
+    let grid = surface_grid s side in
+    three-written bottom grid
+    (cap_triangles Top s.columns (a.first + c.vertex_count.result - 1) (a.first + c.vertex_count.result - 1 - c.ring_size.result)) t₀
     c.write_cap.ensures
     c.write_grid.ensures
     c.write_cap-2.ensures
-    (sym (length-cap Bottom s.columns a.first (a.first + 1)))
-    (omega (arith, length-grid s.split s.round s.columns (chain_of s.ending) s.rows (a.first + 1)))
-    ∙ (λ i. overwrite 0 (flatten (bottom ++ (grid ++ top_of s a.first (pole i) (rim i)))) t₀)
+    (sym (length-cap Bottom s.columns a.first side))
+    (omega (arith, length-grid s.split s.round s.columns (chain_of s.ending) s.rows side))
+    ∙ (λ i. overwrite 0 (flatten (bottom ++ (grid ++ cap_triangles Top s.columns (pole m i) (to-rim i)))) t₀)
     ∙ ap (λ l. overwrite 0 (flatten l) t₀) (sym (capped-parts s a.first c.requires.capped))
