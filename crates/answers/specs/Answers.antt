@@ -1,13 +1,11 @@
 -- The answers of every call: "Refusals return their number" (document 01, 'Refused, and through
 -- whom'). Definitions only.
-use Rattle.std.specs.Prelude.{◌≡◌, Bool, true, false, cond, List, [], ◌∷◌, ℕ}
+use Rattle.std.specs.Prelude.{◌≡◌, Bool, true, false, cond, List, [], ◌∷◌, ℕ, Result, Ok, Err}
 use Rattle.answers.specs.declared.refusal.Refusal.{Refusal}
 use Rattle.answers.specs.declared.refusal.Refusal.TheVariants.{DamagedTable, NoEntry, NoVertices, NoTriangles}
 use Rattle.answers.specs.declared.refusal.Refusal.TheVariants.{PastEnd}
 use Rattle.answers.specs.declared.refusal.Refusal.TheVariants.{CurveVertices, CurveNotFinite, Segment, Fold}
 use Rattle.answers.specs.declared.refusal.Refusal.TheVariants.{Divisions, Layers, Size, NotFinite}
-use Rattle.answers.specs.declared.outcome.Outcome.{Outcome}
-use Rattle.answers.specs.declared.outcome.Outcome.TheVariants.{Accepted, Refused}
 
 -- a refusal's number, or what is accepted
 pub data Answer (A : Type 0) : Type 0 where
@@ -61,6 +59,7 @@ number_of Layers = 21
 number_of Size = 22
 number_of NotFinite = not_finite
 
-abbrev pub outcome_answer : Outcome → Answer (Unit {0})
-outcome_answer Accepted = accepted tt
-outcome_answer (Refused why) = refused (number_of why)
+-- what a call answers, by document 01's numbers
+abbrev pub answer_of : {A : Type 0} → Result A Refusal → Answer A
+answer_of (Ok a) = accepted a
+answer_of (Err why) = refused (number_of why)

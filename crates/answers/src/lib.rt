@@ -1,8 +1,8 @@
-// What a call answers: accepted, or refused for one of document 01's reasons.
+// What a call answers: what it hands back, or one of document 01's reasons to refuse.
 #![tactic(auto)]
 
-mod outcome;
+mod numbers;
 mod refusal;
 
-pub use outcome::Outcome;
+pub use numbers::number;
 pub use refusal::Refusal;

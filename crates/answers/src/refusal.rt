@@ -1,44 +1,44 @@
 ghost use Rattle.std.specs.Prelude.{◌≡◌};
 ghost use Rattle.answers.specs.Answers.{number_of};
 
-// Why a call is refused: every reason of document 01, 'Refused, and through whom', in the order of
-// their numbers.
-#[derive(Clone, Copy)]
+use thiserror::Error;
+
+// Why a call is refused: every reason of document 01, 'Refused, and through whom', with its number.
+#[derive(Clone, Copy, Debug, PartialEq, Eq, Error)]
 pub enum Refusal {
-    DamagedTable,
-    NoEntry,
-    NoVertices,
-    NoTriangles,
-    PastEnd,
-    CurveVertices,
-    CurveNotFinite,
-    Segment,
-    Fold,
-    Divisions,
-    Layers,
-    Size,
-    NotFinite,
+    #[error("the table of contents is damaged")]
+    DamagedTable = 1,
+    #[error("the table has no room for another entry")]
+    NoEntry = 2,
+    #[error("there is no room for the vertices")]
+    NoVertices = 3,
+    #[error("there is no room for the triangles")]
+    NoTriangles = 4,
+    #[error("the file has no word at this place")]
+    PastEnd = 5,
+    #[error("no curve of this kind has so many vertices")]
+    CurveVertices = 10,
+    #[error("a coordinate of the curve is not finite")]
+    CurveNotFinite = 11,
+    #[error("a segment is too short or too long")]
+    Segment = 12,
+    #[error("the curve folds back on itself")]
+    Fold = 13,
+    #[error("the number of divisions is not permitted")]
+    Divisions = 20,
+    #[error("the number of longitudes or layers is not permitted")]
+    Layers = 21,
+    #[error("a width, radius or length is not permitted")]
+    Size = 22,
+    #[error("a vertex is not finite")]
+    NotFinite = 23,
 }
 
-impl Refusal {
+impl From<Refusal> for u32 {
+    ghost from_gives = { λ why number. number ≡ number_of why };
+
     // Document 01's number of the reason.
-    pub fn number(self) -> u32
-        ensures { result ≡ number_of self }
-    {
-        match self {
-            Refusal::DamagedTable => 1,
-            Refusal::NoEntry => 2,
-            Refusal::NoVertices => 3,
-            Refusal::NoTriangles => 4,
-            Refusal::PastEnd => 5,
-            Refusal::CurveVertices => 10,
-            Refusal::CurveNotFinite => 11,
-            Refusal::Segment => 12,
-            Refusal::Fold => 13,
-            Refusal::Divisions => 20,
-            Refusal::Layers => 21,
-            Refusal::Size => 22,
-            Refusal::NotFinite => 23,
-        }
+    fn from(why: Refusal) -> u32 {
+        why as u32
     }
 }

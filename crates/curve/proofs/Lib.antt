@@ -1,2 +1,4 @@
 pub mod Carry
 pub mod Table
+pub mod Every
+pub mod Points

@@ -1,8 +1,7 @@
 ghost use Rattle.std.specs.Prelude.{◌≡◌};
 ghost use Rattle.curve.specs.Checks.{segment_refused, segments_permitted, is_fold, cosine_in, no_fold_in};
 
-use crate::segments::{end, segment, vertex};
-use surface::Chain;
+use crate::segments::{Segments, vertex};
 use vec3::Point;
 
 // Whether a segment is refused for its length (12).
@@ -16,31 +15,6 @@ fn is_refused(v: Point) -> bool
         || !float32::is_finite(d)
 }
 
-// Whether none of the `count` segments is refused for its length (12).
-#[tactic(auto, using(laws::proofs::Every::every_more), unfolding(crate::specs::Checks::segments_permitted))]
-pub fn are_segments_permitted(chain: Chain, count: u16, curve: &[f32]) -> bool
-    ensures { result ≡ segments_permitted chain count curve.now }
-{
-    let mut k: u16 = 0;
-    while k < count {
-        if is_refused(segment(chain, count, curve, k)) {
-            return false;
-        }
-        k += 1;
-    }
-    true
-}
-
-// Document 01's c at the corner where segment k of `count` ends: the dot of its direction with
-// that of the segment after it. `directions` begins with the directions of all segments.
-#[tactic(auto, unfolding(crate::specs::Checks::cosine_in))]
-fn corner_cosine(chain: Chain, count: u16, directions: &[f32], k: u16) -> f32
-    ensures { result ≡ cosine_in chain count directions.now k }
-{
-    let after = end(chain, count, k);
-    vertex(directions, k as usize).dot(vertex(directions, after))
-}
-
 // Whether a corner with this c is a fold (13).
 #[tactic(auto, unfolding(crate::specs::Checks::is_fold))]
 fn is_fold(c: f32) -> bool
@@ -49,18 +23,29 @@ fn is_fold(c: f32) -> bool
     1.0 + c < 0.000244140625
 }
 
-// Whether none of the first `corners` corners is a fold (13). `directions` begins with the
-// directions of the `count` segments.
-#[tactic(auto, using(laws::proofs::Every::every_more), unfolding(crate::specs::Checks::no_fold_in))]
-pub fn has_no_fold(chain: Chain, count: u16, corners: u16, directions: &[f32]) -> bool
-    ensures { result ≡ no_fold_in chain count corners directions.now }
-{
-    let mut corner: u16 = 0;
-    while corner < corners {
-        if is_fold(corner_cosine(chain, count, directions, corner)) {
-            return false;
-        }
-        corner += 1;
+impl Segments<'_> {
+    // Whether none of the segments is refused for its length (12).
+    pub fn are_permitted(self) -> bool
+        ensures { let s = self.entry in result ≡ segments_permitted s.chain s.count s.curve.now }
+    {
+        (0..self.count).all(|k| !is_refused(self.at(k)))
     }
-    true
+
+    // Document 01's c at the corner where segment k ends: the dot of its direction with that of the
+    // segment after it. `directions` begins with the directions of all segments.
+    #[tactic(auto, unfolding(crate::specs::Checks::cosine_in))]
+    fn corner_cosine(self, directions: &[f32], k: u16) -> f32
+        ensures { result ≡ cosine_in self.entry.chain self.entry.count directions.now k }
+    {
+        vertex(directions, k as usize).dot(vertex(directions, self.end(k)))
+    }
+
+    // Whether none of the first `corners` corners is a fold (13). `directions` begins with the
+    // directions of all segments.
+    pub fn has_no_fold(self, corners: u16, directions: &[f32]) -> bool
+        ensures { let s = self.entry in
+            result ≡ no_fold_in s.chain s.count corners directions.now }
+    {
+        (0..corners).all(|k| !is_fold(self.corner_cosine(directions, k)))
+    }
 }

@@ -2,23 +2,18 @@ ghost use Rattle.std.specs.Prelude.{◌≡◌, ◌*◌, ◌≤◌, length};
 ghost use Rattle.laws.specs.Overwrite.{overwrite};
 ghost use Rattle.curve.specs.Segments.{directions_of};
 
-use crate::segments::direction;
-use surface::Chain;
+use crate::segments::{Segments, put_point};
 
-// Writes the directions of the `count` segments, one after the other, to the front of `out`.
-pub fn fill_directions(chain: Chain, count: u16, curve: &[f32], out: &mut [f32])
-    requires { count * 3 ≤ length out.old }
-    ensures { let directions = directions_of chain count curve.now in
-        out.new ≡ overwrite 0 directions out.old }
-{
-    let mut at: usize = 0;
-    let mut k: u16 = 0;
-    while k < count {
-        let d = direction(chain, count, curve, k);
-        out[at] = d.x;
-        out[at + 1] = d.y;
-        out[at + 2] = d.z;
-        at += 3;
-        k += 1;
+impl Segments<'_> {
+    // Writes the directions of the segments, one after the other, to the front of `out`.
+    #[tactic(auto, using(crate::proofs::Points::unwritten), unfolding(crate::specs::Segments::directions_of))]
+    pub fn fill_directions(self, out: &mut [f32])
+        requires { self.count * 3 ≤ length out.old }
+        ensures { let s = self.entry in
+            out.new ≡ overwrite 0 (directions_of s.chain s.count s.curve.now) out.old }
+    {
+        for k in 0..self.count {
+            put_point(out, 3 * k as usize, self.direction(k));
+        }
     }
 }

@@ -7,7 +7,5 @@ mod directions;
 mod framex;
 mod segments;
 
-pub use checks::{are_segments_permitted, has_no_fold};
-pub use directions::fill_directions;
 pub use framex::Carried;
-pub use segments::{direction, point, segment, vertex};
+pub use segments::{Segments, point, put_point, vertex};

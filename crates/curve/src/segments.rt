@@ -1,5 +1,7 @@
 ghost use Rattle.std.specs.Prelude.{◌≡◌, ◌+◌, ◌≤◌, length};
+ghost use Rattle.laws.specs.Overwrite.{overwrite};
 ghost use Rattle.surface.specs.Grid.{after_of};
+ghost use Rattle.vec3.specs.Points.{coordinates};
 ghost use Rattle.curve.specs.Segments.{point_at, vertex_of, segment_of, segment_direction};
 
 use surface::Chain;
@@ -17,58 +19,66 @@ pub fn point(floats: &[f32], at: usize) -> Point
     }
 }
 
+// Writes the coordinates of `p` to `out`, from index `at` on. These are three stores because rings
+// took three times as long to write with `copy_from_slice` of an array of the three.
+pub fn put_point(out: &mut [f32], at: usize, p: Point)
+    requires { at + 3 ≤ length out.old }
+    ensures { out.new ≡ overwrite at (coordinates p) out.old }
+{
+    out[at] = p.x;
+    out[at + 1] = p.y;
+    out[at + 2] = p.z;
+}
+
 // Vertex k, or NaNs if the curve has no vertex k.
 #[tactic(auto, unfolding(crate::specs::Segments::vertex_of))]
 pub fn vertex(curve: &[f32], k: usize) -> Point
     ensures { result ≡ vertex_of curve.now k }
 {
     if k < curve.len() / 3 {
-        return point(curve, 3 * k);
-    }
-    let nan = 0.0 / 0.0;
-    Point {
-        x: nan,
-        y: nan,
-        z: nan,
+        point(curve, 3 * k)
+    } else {
+        Point::thrice(f32::NAN)
     }
 }
 
-// The vertex at which segment k of `count` ends, which is also the number of the segment after k.
-// The remainder is taken only for k past the last segment, which no loop reaches.
-pub(crate) fn end(chain: Chain, count: u16, k: u16) -> usize
-    ensures { result ≡ after_of chain count k }
-{
-    let next = k as usize + 1;
-    match chain {
-        Chain::Open => next,
-        Chain::Closed => {
-            let count = count as usize;
-            if next < count {
-                return next;
-            }
-            if next == count {
-                return 0;
-            }
-            if count == 0 {
-                return next;
-            }
-            next % count
+// The segments of a lent curve, `count` of them. On an open curve each leads from a vertex to the
+// next; on a closed one the last leads back to the first vertex.
+#[derive(Clone, Copy)]
+pub struct Segments<'a> {
+    pub chain: Chain,
+    pub count: u16,
+    pub curve: &'a [f32],
+}
+
+impl Segments<'_> {
+    // The vertex at which segment k ends, which is also the number of the segment after k. The
+    // remainder is taken only for k past the last segment, which no loop reaches.
+    pub(crate) fn end(self, k: u16) -> usize
+        ensures { result ≡ after_of self.entry.chain self.entry.count k }
+    {
+        let next = k as usize + 1;
+        let count = self.count as usize;
+        match self.chain {
+            Chain::Closed if next == count => 0,
+            Chain::Closed if next > count => next.checked_rem(count).unwrap_or(next),
+            _ => next,
         }
     }
-}
 
-// Segment k of `count`, from its first vertex to its last: the difference of the two.
-#[tactic(auto, unfolding(crate::specs::Segments::segment_of))]
-pub fn segment(chain: Chain, count: u16, curve: &[f32], k: u16) -> Point
-    ensures { result ≡ segment_of chain count curve.now k }
-{
-    vertex(curve, end(chain, count, k)).sub(vertex(curve, k as usize))
-}
+    // Segment k, from its first vertex to its last: the difference of the two.
+    #[tactic(auto, unfolding(crate::specs::Segments::segment_of))]
+    pub fn at(self, k: u16) -> Point
+        ensures { let s = self.entry in result ≡ segment_of s.chain s.count s.curve.now k }
+    {
+        vertex(self.curve, self.end(k)).sub(vertex(self.curve, k as usize))
+    }
 
-// Segment k of `count`, normalised.
-#[tactic(auto, unfolding(crate::specs::Segments::segment_direction))]
-pub fn direction(chain: Chain, count: u16, curve: &[f32], k: u16) -> Point
-    ensures { result ≡ segment_direction chain count curve.now k }
-{
-    segment(chain, count, curve, k).normalize()
+    // Segment k, normalised.
+    #[tactic(auto, unfolding(crate::specs::Segments::segment_direction))]
+    pub fn direction(self, k: u16) -> Point
+        ensures { let s = self.entry in result ≡ segment_direction s.chain s.count s.curve.now k }
+    {
+        self.at(k).normalize()
+    }
 }

@@ -1,4 +1,4 @@
-pub mod Answers
 pub mod Descriptions
 pub mod Refusals
 pub mod KindNumbers
+pub mod Shapes

@@ -13,7 +13,7 @@ use Rattle.kinds.specs.Kinds.{vertex_count, triangle_count}
 use Rattle.kinds.specs.declared.topology.Topology.{Topology}
 use Rattle.curve.specs.Checks.{segments_permitted, folds_permitted}
 use Rattle.answers.specs.Answers.{Answer, Test, test, AllPermitted, first_of}
-use Rattle.descriptions.specs.Answers.{Counts}
+use Rattle.descriptions.specs.declared.counts.Counts.{Counts}
 use Rattle.descriptions.specs.KindNumbers.{divisions_of}
 use Rattle.descriptions.specs.Descriptions.{curve_chain, segment_count, corners_of, topology_of}
 use Rattle.descriptions.specs.declared.description.Description.{Description}
@@ -136,14 +136,18 @@ counts_of d N = first_of (counts_tests d N) (body_counts (topology_of d N))
 abbrev pub float_tests : Description → List Float → List Test
 float_tests d c = test 22 (sizes_permitted d) ∷ test 11 (all_finite c) ∷ test 12 (curve_segments_permitted d c) ∷ []
 
-abbrev pub floats_of : Description → Topology → List Float → Answer Topology
-floats_of d body c = first_of (float_tests d c) body
+-- 10, 20, 21 of a curve
+abbrev pub curve_shape_tests : Description → List Float → List Test
+curve_shape_tests d c =
+    let N = length c / 3 in
+    test 10 (curve_permitted d c) ∷ test 20 (round_permitted d) ∷ test 21 (lengthwise_permitted d N) ∷ []
+
+abbrev pub curve_shape_of : Description → List Float → Answer Topology
+curve_shape_of d c = first_of (curve_shape_tests d c) (topology_of d (length c / 3))
 
 -- `checked_tests` without its end: all that is tried before a segment's direction is worked out
 abbrev pub segment_tests : Description → List Float → List Test
-segment_tests d c =
-    let N = length c / 3 in
-    test 10 (curve_permitted d c) ∷ test 20 (round_permitted d) ∷ test 21 (lengthwise_permitted d N) ∷ float_tests d c
+segment_tests d c = curve_shape_tests d c ++ float_tests d c
 
 abbrev pub segments_checked_of : Description → List Float → Answer Topology
 segments_checked_of d c = first_of (segment_tests d c) (topology_of d (length c / 3))

@@ -1,46 +1,55 @@
-ghost use Rattle.std.specs.Prelude.{◌≡◌, true, ◌/◌, length};
-ghost use Rattle.descriptions.specs.Answers.{verdict_answer};
-ghost use Rattle.descriptions.specs.Refusals.{vertices_permitted, floats_of, segments_checked_of};
+ghost use Rattle.std.specs.Prelude.{◌≡◌, IfOk};
+ghost use Rattle.answers.specs.Answers.{answer_of, first_of};
+ghost use Rattle.descriptions.specs.Refusals.{float_tests, curve_shape_of, segments_checked_of};
+ghost use Rattle.descriptions.specs.Shapes.{shaped_answer};
 
 use crate::description::Description;
-use crate::verdict::Verdict;
+use crate::shaped::Shaped;
 use answers::Refusal;
-use kinds::Topology;
+
+impl<'a> Shaped<'a> {
+    // Checks the sizes (22), that the curve is finite (11) and its segments (12), and answers the
+    // first refusal.
+    fn check_floats(self) -> Result<(), Refusal>
+        ensures { answer_of result
+            ≡ first_of (float_tests self.entry.description self.entry.curve.now) tt }
+    {
+        if !self.description.are_sizes_permitted() {
+            return Err(Refusal::Size);
+        }
+        if !float32::are_finite(self.curve) {
+            return Err(Refusal::CurveNotFinite);
+        }
+        if !self.segments().are_permitted() {
+            return Err(Refusal::Segment);
+        }
+        Ok(())
+    }
+}
 
 impl Description {
-    // Checks the sizes (22), that the curve is finite (11) and its segments (12), and answers the
-    // first refusal or `body`. The number of the curve's vertices is permitted (10).
-    fn check_floats(self, body: Topology, curve: &[f32]) -> Verdict
-        requires { vertices_permitted self (length curve.now / 3) ≡ true }
-        ensures { verdict_answer result ≡ floats_of self body curve.now }
-    {
-        if !self.are_sizes_permitted() {
-            return Verdict::Refused(Refusal::Size);
-        }
-        if !float32::are_finite(curve) {
-            return Verdict::Refused(Refusal::CurveNotFinite);
-        }
-        let chain = self.chain();
-        let count = self.segment_count(curve.len() / 3);
-        if !curve::are_segments_permitted(chain, count, curve) {
-            return Verdict::Refused(Refusal::Segment);
-        }
-        Verdict::Accepted(body)
-    }
-
-    // Checks the curve's vertices (10), the divisions (20), the longitudes or layers (21), the
-    // sizes (22), that the curve is finite (11) and its segments (12), in this order, and answers
-    // the first refusal or the body by its numbers. Only the check for folds (13), which needs the
-    // directions of the segments, is left after it.
-    pub fn check_segments(self, curve: &[f32]) -> Verdict
-        ensures { verdict_answer result ≡ segments_checked_of self curve.now }
+    // Checks the curve's vertices (10), the divisions (20) and the longitudes or layers (21), and
+    // answers the first refusal or the body.
+    pub fn with_curve(self, curve: &[f32]) -> Result<Shaped<'_>, Refusal>
+        ensures answer { shaped_answer result ≡ curve_shape_of self curve.now }
+        ensures same { IfOk result (λ s. (s.description ≡ self) × (s.curve ≡ curve.entry)) }
     {
         if curve.len() % 3 != 0 {
-            return Verdict::Refused(Refusal::CurveVertices);
+            return Err(Refusal::CurveVertices);
         }
-        match self.shape(curve.len() / 3) {
-            Verdict::Refused(why) => Verdict::Refused(why),
-            Verdict::Accepted(body) => self.check_floats(body, curve),
-        }
+        self.check_shape(curve.len() / 3)?;
+        Ok(Shaped::new(self, curve))
+    }
+
+    // Checks the same, then the sizes (22), that the curve is finite (11) and its segments (12),
+    // in this order, and answers the first refusal or the body. Only the check for folds (13),
+    // which needs the directions of the segments, is left after it.
+    pub fn check_segments(self, curve: &[f32]) -> Result<Shaped<'_>, Refusal>
+        ensures answer { shaped_answer result ≡ segments_checked_of self curve.now }
+        ensures same { IfOk result (λ s. (s.description ≡ self) × (s.curve ≡ curve.entry)) }
+    {
+        let shaped = self.with_curve(curve)?;
+        shaped.check_floats()?;
+        Ok(shaped)
     }
 }

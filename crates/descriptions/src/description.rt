@@ -1,12 +1,15 @@
-ghost use Rattle.std.specs.Prelude.{◌≡◌, true};
-ghost use Rattle.descriptions.specs.Descriptions.{curve_chain, segment_count, start_checked, corners_of, topology_of};
-ghost use Rattle.descriptions.specs.Refusals.{vertices_permitted, ShapePermitted};
+ghost use Rattle.std.specs.Prelude.{◌≡◌};
+ghost use Rattle.descriptions.specs.Descriptions.{curve_chain, start_checked, topology_of};
+ghost use Rattle.descriptions.specs.KindNumbers.{kind_of, divisions_of};
+ghost use Rattle.descriptions.specs.Refusals.{ShapePermitted};
 
+use crate::along::Along;
+use crate::kind::Kind;
 use kinds::{Capsule, ClosedCylinder, Ribbon, Topology, Torus, Tube};
 use surface::Chain;
 
 // One of six kinds, each with its sizes. The curve is handed over beside it.
-#[derive(Clone, Copy)]
+#[derive(Clone, Copy, Debug)]
 pub enum Description {
     Ribbon {
         width: f32,
@@ -38,63 +41,49 @@ pub enum Description {
 }
 
 impl Description {
+    // Which of the six kinds.
+    pub fn kind(self) -> Kind
+        ensures { result ≡ kind_of self }
+    {
+        match self {
+            Description::Ribbon { .. } => Kind::Ribbon,
+            Description::Tube { .. } => Kind::Tube,
+            Description::Capsule { .. } => Kind::Capsule,
+            Description::Torus { .. } => Kind::Torus,
+            Description::ClosedCylinder { .. } => Kind::ClosedCylinder,
+            Description::SeamlessTorus { .. } => Kind::SeamlessTorus,
+        }
+    }
+
+    // The number of its divisions round, as an entry has it: 0 for a ribbon.
+    pub fn divisions(self) -> u32
+        ensures { result ≡ divisions_of self }
+    {
+        match self {
+            Description::Ribbon { .. } => 0,
+            Description::Tube { divisions, .. }
+            | Description::Capsule { divisions, .. }
+            | Description::Torus { divisions, .. }
+            | Description::ClosedCylinder { divisions, .. }
+            | Description::SeamlessTorus { divisions, .. } => divisions,
+        }
+    }
+
     // Whether its curve is closed.
     pub fn chain(self) -> Chain
         ensures { result ≡ curve_chain self }
     {
         match self {
-            Description::Ribbon { .. } => Chain::Open,
-            Description::Tube { .. } => Chain::Open,
-            Description::Capsule { .. } => Chain::Open,
-            Description::Torus { .. } => Chain::Closed,
-            Description::ClosedCylinder { .. } => Chain::Open,
-            Description::SeamlessTorus { .. } => Chain::Closed,
-        }
-    }
-
-    // How many segments a curve of a permitted number of vertices has.
-    #[tactic(auto, using(crate::proofs::Shapes::limits))]
-    pub fn segment_count(self, vertices: usize) -> u16
-        requires { vertices_permitted self vertices ≡ true }
-        ensures { result ≡ segment_count self vertices }
-    {
-        if vertices == 0 {
-            return 0;
-        }
-        match self.chain() {
-            Chain::Open => (vertices - 1) as u16,
-            Chain::Closed => vertices as u16,
+            Description::Torus { .. } | Description::SeamlessTorus { .. } => Chain::Closed,
+            _ => Chain::Open,
         }
     }
 
     // Whether a fold (13) is also looked for at vertex 0, where a loop closes.
-    fn is_start_checked(self) -> bool
+    pub(crate) fn is_start_checked(self) -> bool
         ensures { result ≡ start_checked self }
     {
-        match self {
-            Description::Ribbon { .. } => false,
-            Description::Tube { .. } => false,
-            Description::Capsule { .. } => false,
-            Description::Torus { .. } => false,
-            Description::ClosedCylinder { .. } => false,
-            Description::SeamlessTorus { .. } => true,
-        }
-    }
-
-    // At how many corners such a curve is checked for folds (13): at the end of every segment if
-    // vertex 0 is checked, otherwise at the end of every segment but the last.
-    pub fn corner_count(self, vertices: usize) -> u16
-        requires { vertices_permitted self vertices ≡ true }
-        ensures { result ≡ corners_of self vertices }
-    {
-        let segments = self.segment_count(vertices);
-        if self.is_start_checked() {
-            return segments;
-        }
-        if segments == 0 {
-            return 0;
-        }
-        segments - 1
+        matches!(self, Description::SeamlessTorus { .. })
     }
 
     // The body by its numbers. A loop has as many vertices as segments.
@@ -103,7 +92,11 @@ impl Description {
         requires { ShapePermitted self vertices }
         ensures { result ≡ topology_of self vertices }
     {
-        let segments = self.segment_count(vertices);
+        let along = Along {
+            description: self,
+            vertices,
+        };
+        let segments = along.segment_count();
         let divisions = self.divisions() as u16;
         match self {
             Description::Ribbon { .. } => Topology::Ribbon(Ribbon { segments }),
@@ -116,20 +109,18 @@ impl Description {
                 longitudes: longitudes as u16,
                 segments,
             }),
-            Description::Torus { .. } => Topology::Torus(Torus {
-                divisions,
-                vertices: segments,
-            }),
+            Description::Torus { .. } | Description::SeamlessTorus { .. } => Topology::Torus(
+                Torus {
+                    divisions,
+                    vertices: segments,
+                },
+            ),
             Description::ClosedCylinder { layers, .. } => Topology::ClosedCylinder(
                 ClosedCylinder {
                     divisions,
                     layers: layers as u16,
                 },
             ),
-            Description::SeamlessTorus { .. } => Topology::Torus(Torus {
-                divisions,
-                vertices: segments,
-            }),
         }
     }
 }

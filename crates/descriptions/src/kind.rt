@@ -1,88 +1,66 @@
 ghost use Rattle.std.specs.Prelude.{◌≡◌};
-ghost use Rattle.descriptions.specs.KindNumbers.{described_of, kind_number, divisions_of};
+ghost use Rattle.descriptions.specs.KindNumbers.{number_of, kind_numbered, kind_text};
 
-use crate::description::Description;
+use std::fmt;
+use thiserror::Error;
 
-// The number of the last kind; the first is 1.
-pub const LAST_KIND: u32 = 6;
-
-// The description that has a kind's number, or `Unknown` where no kind has it.
-#[derive(Clone, Copy)]
-pub enum Described {
-    Known(Description),
-    Unknown,
+// The kinds of body, with their numbers in records and in entries.
+#[derive(Clone, Copy, Debug, PartialEq, Eq)]
+pub enum Kind {
+    Ribbon = 1,
+    Tube = 2,
+    Capsule = 3,
+    Torus = 4,
+    ClosedCylinder = 5,
+    SeamlessTorus = 6,
 }
 
-// Makes the description of the kind that has the number `kind`. `size` is the width of a ribbon
-// and the radius of the others, `steps` the longitudes of a capsule and the layers of a closed
-// cylinder. What a kind lacks is ignored.
-#[tactic(auto, unfolding(crate::specs::KindNumbers::described_of))]
-pub fn of_kind(
-    kind: u32,
-    divisions: u32,
-    steps: u32,
-    centred: bool,
-    size: f32,
-    length: f32,
-) -> Described
-    ensures { result ≡ described_of kind divisions steps centred size length }
-{
-    match kind {
-        1 => Described::Known(Description::Ribbon { width: size }),
-        2 => Described::Known(Description::Tube {
-            divisions,
-            radius: size,
-        }),
-        3 => Described::Known(Description::Capsule {
-            divisions,
-            longitudes: steps,
-            radius: size,
-        }),
-        4 => Described::Known(Description::Torus {
-            divisions,
-            radius: size,
-        }),
-        5 => Described::Known(Description::ClosedCylinder {
-            divisions,
-            layers: steps,
-            centred,
-            radius: size,
-            length,
-        }),
-        6 => Described::Known(Description::SeamlessTorus {
-            divisions,
-            radius: size,
-        }),
-        _ => Described::Unknown,
+impl From<Kind> for u32 {
+    ghost from_gives = { λ kind number. number ≡ number_of kind };
+
+    // The kind's number.
+    fn from(kind: Kind) -> u32 {
+        kind as u32
     }
 }
 
-impl Description {
-    // The number of its kind, as `of_kind` takes it.
-    pub fn kind_number(self) -> u32
-        ensures { result ≡ kind_number self }
-    {
-        match self {
-            Description::Ribbon { .. } => 1,
-            Description::Tube { .. } => 2,
-            Description::Capsule { .. } => 3,
-            Description::Torus { .. } => 4,
-            Description::ClosedCylinder { .. } => 5,
-            Description::SeamlessTorus { .. } => 6,
+// A number that no kind has.
+#[derive(Clone, Copy, Debug, PartialEq, Eq, Error)]
+#[error("no kind has the number {0}")]
+pub struct UnknownKind(pub u32);
+
+impl TryFrom<u32> for Kind {
+    type Error = UnknownKind;
+
+    ghost try_from_gives = { λ number result. result ≡ kind_numbered number };
+
+    // The kind that has the number.
+    #[tactic(auto, unfolding(crate::specs::KindNumbers::kind_numbered))]
+    fn try_from(number: u32) -> Result<Kind, UnknownKind> {
+        match number {
+            1 => Ok(Kind::Ribbon),
+            2 => Ok(Kind::Tube),
+            3 => Ok(Kind::Capsule),
+            4 => Ok(Kind::Torus),
+            5 => Ok(Kind::ClosedCylinder),
+            6 => Ok(Kind::SeamlessTorus),
+            _ => Err(UnknownKind(number)),
         }
     }
+}
 
-    // The number of its divisions round, as an entry has it: 0 for a ribbon.
-    pub fn divisions(self) -> u32
-        ensures { result ≡ divisions_of self }
-    {
-        match self {
-            Description::Ribbon { .. } => 0,
-            Description::Tube { divisions, .. } => divisions,
-            Description::Capsule { divisions, .. } => divisions,
-            Description::Torus { divisions, .. } => divisions,
-            Description::ClosedCylinder { divisions, .. } => divisions,
-            Description::SeamlessTorus { divisions, .. } => divisions,
-        }
+impl fmt::Display for Kind {
+    ghost output = { kind_text };
+
+    // The kind's name.
+    fn fmt<W: fmt::Write>(&self, f: &mut fmt::Formatter<W>) -> fmt::Result {
+        f.write_str(match self {
+            Kind::Ribbon => "ribbon",
+            Kind::Tube => "tube",
+            Kind::Capsule => "capsule",
+            Kind::Torus => "torus",
+            Kind::ClosedCylinder => "closed_cylinder",
+            Kind::SeamlessTorus => "seamless_torus",
+        })
     }
 }

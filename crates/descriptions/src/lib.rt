@@ -2,13 +2,18 @@
 // and every refusal that needs no table, up to a segment (12).
 #![tactic(auto)]
 
+mod along;
 mod checks;
 mod counts;
 mod description;
 mod kind;
 mod limits;
-mod verdict;
+mod shaped;
+mod sizes;
 
+pub use along::Along;
+pub use counts::Counts;
 pub use description::Description;
-pub use kind::{Described, LAST_KIND, of_kind};
-pub use verdict::{Counted, Verdict};
+pub use kind::{Kind, UnknownKind};
+pub use shaped::Shaped;
+pub use sizes::{Sizes, of_kind};
