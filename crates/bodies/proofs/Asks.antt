@@ -1,15 +1,9 @@
 -- What each kind's writer asks, of a body that 10, 20 and 21 permit and that has room. Assumes
 -- nothing.
-use mathlib.Core.Path.{◌≡◌, ap}
-use mathlib.Core.List.{List}
-use Prim.Native.Nat.{ℕ, ◌+◌, ◌-◌, ◌*◌, ◌≤◌}
-use native.Mathlib.Omega.{arith}
-use lib.Ieee.{Float}
-use Rattle.surface.specs.declared.grid.Chain.{Chain}
-use Rattle.surface.specs.declared.grid.Chain.TheVariants.{Open, Closed}
+use Rattle.std.proofs.Common.{◌≡◌, ap, List, ℕ, ◌+◌, ◌-◌, ◌*◌, ◌≤◌, arith, Float}
 use Rattle.kinds.specs.Kinds.{vertex_count}
 use Rattle.curve.specs.Segments.{vertices_in}
-use Rattle.descriptions.specs.Descriptions.{curve_chain, segments_of, segment_count, topology_of}
+use Rattle.descriptions.specs.Descriptions.{topology_of}
 use Rattle.descriptions.specs.Refusals.{ShapePermitted}
 use Rattle.descriptions.specs.declared.description.Description.{Description}
 use Rattle.descriptions.specs.declared.description.Description.TheVariants.{Ribbon, Tube, Capsule}
@@ -61,11 +55,3 @@ asks (ClosedCylinder n S centred r l) c table room h fits along =
     let b = shape-bounds (ClosedCylinder n S centred r l) (vertices_in c) h in
     (b.0.1, b.1.1, omega arith)
 asks (SeamlessTorus n r) c table room h fits along = loop-asks n r c table room h fits along
-
--- a curve has no more segments than vertices
-no_more : (chain : Chain) (N : ℕ) → segments_of chain N ≤ N
-no_more Open N = omega arith
-no_more Closed N = omega arith
-
-pub segments-few : (d : Description) (N : ℕ) → segment_count d N ≤ N
-segments-few d N = no_more (curve_chain d) N

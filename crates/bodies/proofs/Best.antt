@@ -1,7 +1,6 @@
 -- The k that the code takes is one of the best wherever the scores are finite: of a seamless torus
 -- because the search picks one, and of the other kinds nothing is asked. Assumes nothing.
-use mathlib.Core.List.{List}
-use lib.Ieee.{Float}
+use Rattle.std.proofs.Common.{List, Float}
 use Rattle.curve.specs.Segments.{vertices_in}
 use Rattle.descriptions.specs.declared.description.Description.{Description}
 use Rattle.twists.proofs.Chosen.{chosen-best}

@@ -1,12 +1,7 @@
 -- What the code writes is the body's vertices where its scores are finite, and is not finite where
 -- they are not: a NaN radius makes a NaN of every float. So the floats that were written say what
 -- 23 asks. Assumes nothing.
-use mathlib.Core.Path.{◌≡◌, refl, sym, ap, ◌∙◌}
-use mathlib.Core.Bool.{Bool, true, false, ◌&&◌}
-use mathlib.Core.List.{List}
-use Prim.Native.Nat.{ℕ}
-use native.Mathlib.Omega.{arith}
-use lib.Ieee.{Float}
+use Rattle.std.proofs.Common.{◌≡◌, refl, sym, ap, ◌∙◌, Bool, true, false, ◌&&◌, List, ℕ, arith, Float}
 use Rattle.float32.specs.Scan.{all_finite}
 use Rattle.curve.specs.Segments.{vertices_in}
 use Rattle.descriptions.specs.Refusals.{ShapePermitted}

@@ -1,12 +1,7 @@
 -- How many floats the vertices of a body are: three for each vertex of its counts, because each
 -- kind's parts are that long. Assumes nothing.
-use mathlib.Core.Path.{◌≡◌, sym, ap, subst, ◌∙◌}
-use mathlib.Core.Bool.{true}
-use mathlib.Core.List.{List}
-use Prim.Native.Nat.{ℕ, ◌+◌, ◌-◌, ◌*◌, ◌≤◌}
-use native.Mathlib.Omega.{arith}
-use lib.Ieee.{Float}
-use lib.ListN.{length}
+use Rattle.std.proofs.Common.{◌≡◌, sym, ap, subst, ◌∙◌, true, List, ℕ, ◌+◌, ◌-◌, ◌*◌, ◌≤◌, arith, Float}
+use Rattle.std.proofs.Common.{length}
 use Rattle.kinds.specs.Kinds.{vertex_count}
 use Rattle.curve.specs.Segments.{vertices_in}
 use Rattle.descriptions.specs.Descriptions.{topology_of}

@@ -4,3 +4,4 @@ mod Untwisted
 pub mod Lengths
 pub mod Drawn
 pub mod Best
+pub mod Corners

@@ -1,11 +1,7 @@
 -- Only a seamless torus has a twist: of a body of any other kind nothing is asked of k, and it is
 -- drawn as it is described. So a law of every body is one of seamless tori and one of bodies
 -- without a twist. Assumes nothing.
-use mathlib.Core.Path.{◌≡◌, refl}
-use mathlib.Core.Bool.{true}
-use mathlib.Core.List.{List}
-use Prim.Native.Nat.{ℕ}
-use lib.Ieee.{Float}
+use Rattle.std.proofs.Common.{◌≡◌, refl, true, List, ℕ, Float}
 use Rattle.descriptions.specs.declared.description.Description.{Description}
 use Rattle.descriptions.specs.declared.description.Description.TheVariants.{Ribbon, Tube, Capsule}
 use Rattle.descriptions.specs.declared.description.Description.TheVariants.{Torus, ClosedCylinder, SeamlessTorus}

@@ -1,2 +1,2 @@
 pub mod Bodies
-pub mod Work
+pub mod Tables

@@ -1,13 +1,16 @@
-ghost use Rattle.std.specs.Prelude.{◌≡◌, ◌*◌, ◌/◌, ◌≤◌, length};
+ghost use Rattle.std.specs.Prelude.{◌≡◌, ◌*◌, ◌≤◌, length};
+ghost use Rattle.std.specs.Result.{is_ok};
 ghost use Rattle.laws.specs.Overwrite.{overwrite, placed};
 ghost use Rattle.kinds.specs.Kinds.{vertex_count};
-ghost use Rattle.descriptions.specs.Descriptions.{segment_count, topology_of};
-ghost use Rattle.descriptions.specs.Refusals.{ShapePermitted};
-ghost use Rattle.bodies.specs.Bodies.{drawn_of, drawable, CurveDirections};
+ghost use Rattle.answers.specs.Answers.{answer_of};
+ghost use Rattle.descriptions.specs.Shapes.{folds_answer};
+ghost use Rattle.bodies.specs.Bodies.{drawn_of, drawable};
+ghost use Rattle.bodies.specs.Tables.{BodyTables, drawn};
 
-use crate::draw::draw;
-use crate::work::Work;
-use descriptions::{Description, Verdict};
+use crate::folds::check_corners;
+use crate::tables::with_tables;
+use answers::Refusal;
+use descriptions::{Description, Shaped};
 use ring_writers::cylinder_closed_end_yup;
 use seamless_torus::to_trimesh3_seamless_torus;
 use swept_bodies::{
@@ -16,22 +19,14 @@ use swept_bodies::{
 };
 
 // Writes the vertices of a body to the front of `out`, from the table of its curve's directions.
-// Its number of curve vertices (10), its divisions (20) and its longitudes or layers (21) are
-// permitted. `ez` is scratch space.
-pub(crate) fn fill(
-    description: Description,
-    curve: &[f32],
-    directions: &[f32],
-    ez: &mut [f32],
-    out: &mut [f32],
-)
-    requires shape_permitted { ShapePermitted description (length curve.now / 3) }
-    requires out_room { 3 * vertex_count (topology_of description (length curve.now / 3)) ≤ length out.old }
-    requires curve_directions { CurveDirections description curve.now directions.now }
-    requires ez_room { segment_count description (length curve.now / 3) * 3 ≤ length ez.old }
-    ensures { out.new ≡ overwrite 0 (drawn_of description curve.now) out.old }
+// `ez` is scratch space.
+fn fill(shaped: Shaped<'_>, directions: &[f32], ez: &mut [f32], out: &mut [f32])
+    requires out_room { 3 * vertex_count shaped.body ≤ length out.old }
+    requires tables { BodyTables shaped directions.now ez.old }
+    ensures { out.new ≡ overwrite 0 (drawn shaped.entry) out.old }
 {
-    match description {
+    let curve = shaped.curve;
+    match shaped.description {
         Description::Ribbon { width } => { to_trimesh3_ribbon(out, curve, directions, width) },
         Description::Tube {
             divisions: n,
@@ -64,6 +59,41 @@ pub(crate) fn fill(
     }
 }
 
+// Writes them if the curve passes the check for folds (13), by the same table.
+fn fill_unless_folded(
+    shaped: Shaped<'_>,
+    directions: &[f32],
+    ez: &mut [f32],
+    out: &mut [f32],
+) -> Result<(), Refusal>
+    requires out_room { 3 * vertex_count shaped.body ≤ length out.old }
+    requires tables { BodyTables shaped directions.now ez.old }
+    ensures answer { answer_of result ≡ folds_answer shaped.entry }
+    ensures out_after { out.new ≡ placed (is_ok result) (drawn shaped.entry) out.old }
+{
+    check_corners(shaped, directions)?;
+    fill(shaped, directions, ez, out);
+    Ok(())
+}
+
+// Writes the vertices of a body of a permitted shape to the front of `out`.
+fn write(shaped: Shaped<'_>, out: &mut [f32])
+    requires { 3 * vertex_count shaped.body ≤ length out.old }
+    ensures { out.new ≡ overwrite 0 (drawn shaped.entry) out.old }
+{
+    with_tables(shaped, out, fill)
+}
+
+// Checks the curve of a body of a permitted shape for folds (13), and writes the body's vertices
+// to the front of `out` if it passes.
+pub fn write_unless_folded(shaped: Shaped<'_>, out: &mut [f32]) -> Result<(), Refusal>
+    requires { 3 * vertex_count shaped.body ≤ length out.old }
+    ensures answer { answer_of result ≡ folds_answer shaped.entry }
+    ensures out_after { out.new ≡ placed (is_ok result) (drawn shaped.entry) out.old }
+{
+    with_tables(shaped, out, fill_unless_folded)
+}
+
 // Writes the body's vertices to the front of `out`, whatever floats its sizes and its curve have,
 // and answers true. If its shape is refused, for its number of curve vertices (refusal 10), its
 // divisions (20) or its longitudes or layers (21), or if `out` is too short, it answers false and
@@ -73,16 +103,12 @@ pub fn write_vertices(description: Description, curve: &[f32], out: &mut [f32]) 
     ensures answer { result ≡ drawable description curve.now (length out.old) }
     ensures out_after { out.new ≡ placed result (drawn_of description curve.now) out.old }
 {
-    if curve.len() % 3 != 0 {
+    let Ok(shaped) = description.with_curve(curve) else {
+        return false;
+    };
+    if !surface::fits(shaped.body.vertex_count(), out.len()) {
         return false;
     }
-    match description.shape(curve.len() / 3) {
-        Verdict::Refused(_) => false,
-        Verdict::Accepted(body) => {
-            if !surface::fits(body.vertex_count(), out.len()) {
-                return false;
-            }
-            draw(Work::Write, description, curve, out)
-        }
-    }
+    write(shaped, out);
+    true
 }

@@ -1,82 +1,42 @@
 ghost use Rattle.std.specs.Prelude.{◌≡◌, ◌+◌, ◌*◌, ◌≤◌, length};
 ghost use Rattle.laws.specs.Overwrite.{overwrite};
-ghost use Rattle.surface.specs.declared.caps.End.TheVariants.{Bottom, Top};
-ghost use Rattle.ring_writers.specs.Tables.{Turns};
 ghost use Rattle.ring_writers.specs.Caps.{cap_rings, end_vertices};
 
-use crate::points::put_point;
 use crate::ring_writer::write_ring;
-use rings::{Axes, cap_ring};
+use crate::turns::Turns;
+use curve::put_point;
+use rings::Cap;
 use surface::End;
 
-// Writes the `longitudes` rings of a capsule's cap, `n` vertices each, to the front of `out`.
-// `axes` are those at the end of the curve.
-fn write_cap(
-    out: &mut [f32],
-    end: End,
-    axes: Axes,
-    radius: f32,
-    longitudes: u16,
-    n: u16,
-    turns: &[f32],
-)
-    requires room { longitudes * (n * 3) ≤ length out.old }
-    requires turned { Turns n turns.now }
-    ensures { out.new ≡ overwrite 0 (cap_rings end axes radius longitudes n) out.old }
+// Writes the rings of a capsule's cap to the front of `out`.
+#[tactic(auto, using(curve::proofs::Points::unwritten))]
+fn write_cap(out: &mut [f32], cap: Cap, turns: &Turns)
+    requires { cap.longitudes * (turns.now * 3) ≤ length out.old }
+    ensures { let rings = cap_rings cap.end cap.axes cap.radius cap.longitudes turns.now in
+        out.new ≡ overwrite 0 rings out.old }
 {
-    let size = n as usize * 3;
-    let mut place: usize = 0;
-    let mut j: u16 = 0;
-    while j < longitudes {
-        write_ring(
-            out,
-            place,
-            cap_ring(end, axes, radius, longitudes, j),
-            n as usize,
-            turns,
-        );
-        place += size;
-        j += 1;
+    for j in 0..cap.longitudes {
+        write_ring(out, j as usize * turns.ring_floats(), cap.ring(j), turns);
     }
 }
 
-// Writes what stands at the first vertex of a capsule's curve to the front of `out`: the bottom
-// pole, then the rings of the bottom cap.
-pub fn write_bottom(
-    out: &mut [f32],
-    axes: Axes,
-    radius: f32,
-    longitudes: u16,
-    n: u16,
-    turns: &[f32],
-)
-    requires room { longitudes * (n * 3) + 3 ≤ length out.old }
-    requires turned { Turns n turns.now }
-    ensures { out.new ≡ overwrite 0 (end_vertices Bottom axes radius longitudes n) out.old }
+// Writes what stands at an end of a capsule's curve to the front of `out`: at the first vertex the
+// bottom pole, then the rings of the bottom cap; at the last the rings of the top cap, then the top
+// pole.
+pub fn write_end(out: &mut [f32], cap: Cap, turns: &Turns)
+    requires { cap.longitudes * (turns.now * 3) + 3 ≤ length out.old }
+    ensures { let vertices = end_vertices cap.end cap.axes cap.radius cap.longitudes turns.now in
+        out.new ≡ overwrite 0 vertices out.old }
 {
-    put_point(out, 0, axes.origin.sub(axes.ez.scale(radius)));
-    write_cap(
-        &mut out[3..],
-        End::Bottom,
-        axes,
-        radius,
-        longitudes,
-        n,
-        turns,
-    );
-}
-
-// Writes what stands at the last vertex of a capsule's curve to the front of `out`: the rings of
-// the top cap, then the top pole.
-pub fn write_top(out: &mut [f32], axes: Axes, radius: f32, longitudes: u16, n: u16, turns: &[f32])
-    requires room { longitudes * (n * 3) + 3 ≤ length out.old }
-    requires turned { Turns n turns.now }
-    ensures { out.new ≡ overwrite 0 (end_vertices Top axes radius longitudes n) out.old }
-{
-    write_cap(out, End::Top, axes, radius, longitudes, n, turns);
-    put_point(
-        out,
-        longitudes as usize * (n as usize * 3),
-        axes.origin.add(axes.ez.scale(radius)),
-    );
+    match cap.end {
+        End::Bottom => {
+            put_point(out, 0, cap.pole());
+            write_cap(&mut out[3..], cap, turns);
+        }
+        End::Top => {
+            write_cap(out, cap, turns);
+            let above = cap.longitudes as usize * turns.ring_floats();
+            put_point(out, above, cap.pole());
+        }
+    }
 }

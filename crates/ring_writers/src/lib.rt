@@ -3,13 +3,12 @@
 #![tactic(auto)]
 
 mod caps;
-mod points;
 mod ring_writer;
 mod trimesh3_primitive;
 mod turns;
 
-pub use caps::{write_bottom, write_top};
-pub use points::put_point;
+pub use caps::write_end;
+pub use curve::put_point;
 pub use ring_writer::write_ring;
 pub use trimesh3_primitive::cylinder_closed_end_yup;
-pub use turns::{TURN_FLOATS, fill_turns};
+pub use turns::Turns;

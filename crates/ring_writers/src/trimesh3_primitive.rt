@@ -1,11 +1,11 @@
 ghost use Rattle.std.specs.Prelude.{◌≡◌, ◌+◌, ◌*◌, ◌≤◌, length};
 ghost use Rattle.laws.specs.Overwrite.{overwrite};
-ghost use Rattle.ring_writers.specs.Tables.{Turns};
+ghost use Rattle.rings.specs.Vertices.{pole};
 ghost use Rattle.ring_writers.specs.ClosedCylinder.{low_of, cylinder_rings, cylinder_vertices};
 
-use crate::points::put_point;
 use crate::ring_writer::write_level;
-use crate::turns::{TURN_FLOATS, fill_turns};
+use crate::turns::Turns;
+use curve::put_point;
 use vec3::Point;
 
 // The height of the bottom: the cylinder stands on height 0, or is centred there.
@@ -16,30 +16,24 @@ fn low(centred: bool, height: f32) -> f32
     if centred { -height * 0.5 } else { 0.0 }
 }
 
+// The pole at height `y`.
+fn pole(y: f32) -> Point
+    ensures { result ≡ pole y }
+{
+    Point { x: 0.0, y, z: 0.0 }
+}
+
 // Writes the rings 0 to `layers`, from the bottom up, to the front of `out`.
-fn write_levels(
-    out: &mut [f32],
-    radius: f32,
-    low: f32,
-    height: f32,
-    layers: u16,
-    n: u16,
-    turns: &[f32],
-)
+#[tactic(auto, using(curve::proofs::Points::unwritten))]
+fn write_levels(out: &mut [f32], radius: f32, low: f32, height: f32, layers: u16, turns: &Turns)
     requires layers_permitted { layers ≤ 4096 }
-    requires room { (layers + 1) * (n * 3) ≤ length out.old }
-    requires turned { Turns n turns.now }
-    ensures { out.new ≡ overwrite 0 (cylinder_rings radius low height layers n) out.old }
+    requires room { (layers + 1) * (turns.now * 3) ≤ length out.old }
+    ensures { out.new ≡ overwrite 0 (cylinder_rings radius low height layers turns.now) out.old }
 {
     let step = height / layers as f32;
-    let size = n as usize * 3;
-    let mut place: usize = 0;
-    let mut g: u16 = 0;
-    while g <= layers {
+    for g in 0..layers + 1 {
         let y = low + step * g as f32;
-        write_level(out, place, radius, y, n as usize, turns);
-        place += size;
-        g += 1;
+        write_level(out, g as usize * turns.ring_floats(), radius, y, turns);
     }
 }
 
@@ -58,21 +52,11 @@ pub fn cylinder_closed_end_yup(
     ensures { out.new
         ≡ overwrite 0 (cylinder_vertices radius height n layers centred) out.old }
 {
-    let mut turns = [0.0f32; TURN_FLOATS];
-    fill_turns(n, &mut turns);
+    let mut turns = Turns::none();
+    turns.fill(n);
     let low = low(centred, height);
-    let top = 3 + (layers as usize + 1) * (n as usize * 3);
-    let bottom_pole = Point {
-        x: 0.0,
-        y: low,
-        z: 0.0,
-    };
-    put_point(out, 0, bottom_pole);
-    write_levels(&mut out[3..], radius, low, height, layers, n, &turns);
-    let top_pole = Point {
-        x: 0.0,
-        y: low + height,
-        z: 0.0,
-    };
-    put_point(out, top, top_pole);
+    put_point(out, 0, pole(low));
+    write_levels(&mut out[3..], radius, low, height, layers, &turns);
+    let above = 3 + (layers as usize + 1) * turns.ring_floats();
+    put_point(out, above, pole(low + height));
 }

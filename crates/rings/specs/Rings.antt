@@ -1,6 +1,7 @@
 -- Rings as values, and the vertex of a ring in a direction: the formulas of document 01, 'Frames
 -- and vertices', as Vertices.antt quotes them, over a centre and a radius. Definitions only.
-use Rattle.std.specs.Prelude.{ℕ, ◌-◌, ◌*◌, Float}
+use Rattle.std.specs.Prelude.{List, [], ◌∷◌, ℕ, ◌-◌, ◌*◌, Float, slice_index_or}
+use Rattle.std.specs.Float.{nan}
 use Rattle.std.specs.Float.Ieee.{neg}
 use Rattle.surface.specs.declared.caps.End.{End}
 use Rattle.surface.specs.declared.caps.End.TheVariants.{Bottom, Top}
@@ -12,7 +13,6 @@ use Rattle.rings.specs.declared.axes.Axes.{Axes}
 use Rattle.rings.specs.declared.ring.Order.{Order}
 use Rattle.rings.specs.declared.ring.Order.TheVariants.{EyFirst, ExFirst, SumFirst}
 use Rattle.rings.specs.declared.ring.Ring.{Ring}
-use Rattle.rings.specs.declared.four.Four.{Four}
 
 unfoldable pub ring_around : Order → Axes → Point → Float → Ring
 ring_around order a centre r = record { order = order; centre = centre; ex = a.ex; ey = a.ey; radius = r }
@@ -37,14 +37,15 @@ in_order SumFirst k cos sin = sum_first k cos sin
 abbrev pub ring_vertex : Ring → Direction → Point
 ring_vertex k d = in_order k.order k (thrice d.cos) (thrice d.sin)
 
+-- point i of a list
+abbrev pub point_in : List Point → ℕ → Point
+point_in points i = slice_index_or points i (record { x = nan; y = nan; z = nan })
+
 -- four vertices of a ring
-abbrev pub four_of : (Point → Point → Point) → Four → Four → Four
-four_of vertex cos sin = record {
-  first = vertex cos.first sin.first;
-  second = vertex cos.second sin.second;
-  third = vertex cos.third sin.third;
-  fourth = vertex cos.fourth sin.fourth;
-}
+abbrev pub four_of : (Point → Point → Point) → List Point → List Point → List Point
+four_of vertex cos sin =
+    vertex (point_in cos 0) (point_in sin 0) ∷ vertex (point_in cos 1) (point_in sin 1)
+    ∷ vertex (point_in cos 2) (point_in sin 2) ∷ vertex (point_in cos 3) (point_in sin 3) ∷ []
 
 -- the ring round the origin of the axes
 abbrev pub ring_at : Order → Axes → Float → Ring

@@ -31,6 +31,10 @@ bottom_pole a r = difference_of a.origin (scaled a.ez r)
 unfoldable pub top_pole : Axes → Float → Point
 top_pole a r = sum_of a.origin (scaled a.ez r)
 
+abbrev pub cap_pole : End → Axes → Float → Point
+cap_pole Bottom a r = bottom_pole a r
+cap_pole Top a r = top_pole a r
+
 -- "Bottom rings ..: c0 = r·t.cos, ((p + ez·(−r·t.sin)) + ey·(c0·C)) + ex·(c0·Sn)."
 unfoldable pub bottom_vertex : Axes → Float → Direction → Direction → Point
 bottom_vertex a r t d =

@@ -1,37 +1,58 @@
-ghost use Rattle.std.specs.Prelude.{◌≡◌, ◌-◌};
+ghost use Rattle.std.specs.Prelude.{◌≡◌};
 ghost use Rattle.rings.specs.Rings.{cap_ring};
+ghost use Rattle.rings.specs.Vertices.{cap_pole};
 
 use crate::axes::Axes;
 use crate::ring::{Order, Ring};
 use surface::End;
-use vec3::turn;
+use vec3::{Point, turn};
 
-// How many rings of a bottom cap lie above ring `j`: none if the cap has no ring `j`.
-fn rings_above(longitudes: u16, j: u16) -> u16
-    ensures { result ≡ longitudes - 1 - j }
-{
-    if j < longitudes {
-        longitudes - 1 - j
-    } else {
-        0
-    }
+// One of a capsule's two caps: at which end it is, the axes there, and how many rings it has.
+#[derive(Clone, Copy)]
+pub struct Cap {
+    pub end: End,
+    pub axes: Axes,
+    pub radius: f32,
+    pub longitudes: u16,
 }
 
-// Ring `j` of the `longitudes` rings of a cap at the end of a curve.
-pub fn cap_ring(end: End, axes: Axes, radius: f32, longitudes: u16, j: u16) -> Ring
-    ensures { result ≡ cap_ring end axes radius longitudes j }
-{
-    let quarters = 4 * longitudes as u32;
-    match end {
-        End::Bottom => {
-            let t = turn(rings_above(longitudes, j) as u32, quarters);
-            let centre = axes.origin.add(axes.ez.scale(-radius * t.sin));
-            Ring::around(Order::EyFirst, axes, centre, radius * t.cos)
-        }
-        End::Top => {
-            let t = turn(j as u32, quarters);
-            let centre = axes.origin.add(axes.ez.scale(radius * t.sin));
-            Ring::around(Order::ExFirst, axes, centre, radius * t.cos)
+impl Cap {
+    // Ring `j` of the cap.
+    pub fn ring(self, j: u16) -> Ring
+        ensures { result ≡ cap_ring self.end self.axes self.radius self.longitudes j }
+    {
+        let Cap {
+            end,
+            axes,
+            radius,
+            longitudes,
+        } = self;
+        let quarters = 4 * longitudes as u32;
+        let (order, t, along) = match end {
+            End::Bottom => {
+                let above = longitudes.saturating_sub(1).saturating_sub(j);
+                let t = turn(above as u32, quarters);
+                (Order::EyFirst, t, -radius * t.sin)
+            }
+            End::Top => {
+                let t = turn(j as u32, quarters);
+                (Order::ExFirst, t, radius * t.sin)
+            }
+        };
+        let centre = axes.origin.add(axes.ez.scale(along));
+        Ring::around(order, axes, centre, radius * t.cos)
+    }
+
+    // The vertex at the tip of the cap.
+    #[tactic(auto, unfolding(crate::specs::Vertices::bottom_pole, crate::specs::Vertices::top_pole))]
+    pub fn pole(self) -> Point
+        ensures { result ≡ cap_pole self.end self.axes self.radius }
+    {
+        let Axes { origin, ez, .. } = self.axes;
+        let along = ez.scale(self.radius);
+        match self.end {
+            End::Bottom => origin.sub(along),
+            End::Top => origin.add(along),
         }
     }
 }

@@ -9,7 +9,6 @@ mod levels;
 mod ring;
 
 pub use axes::{Axes, framez};
-pub use caps::cap_ring;
-pub use four::Four;
+pub use caps::Cap;
 pub use levels::level;
 pub use ring::{Order, Ring};

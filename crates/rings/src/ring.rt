@@ -7,7 +7,7 @@ use vec3::Point;
 // The order in which document 01 adds up the terms of a vertex. On the side of a tube or a capsule
 // and in a bottom cap ey comes first, in a top cap ex; on a torus the two are added up before the
 // radius comes in.
-#[derive(Clone, Copy)]
+#[derive(Clone, Copy, Debug, PartialEq, Eq)]
 pub enum Order {
     EyFirst,
     ExFirst,
@@ -30,8 +30,7 @@ impl Ring {
     pub fn around(order: Order, axes: Axes, centre: Point, radius: f32) -> Ring
         ensures { result ≡ ring_around order axes centre radius }
     {
-        let ex = axes.ex;
-        let ey = axes.ey;
+        let Axes { ex, ey, .. } = axes;
         Ring {
             order,
             centre,
@@ -70,8 +69,7 @@ impl Ring {
     pub fn vertex(self, cos: Point, sin: Point) -> Point
         ensures { result ≡ in_order self.order self cos sin }
     {
-        let order = self.order;
-        match order {
+        match self.order {
             Order::EyFirst => self.two_terms(self.ey, cos, self.ex, sin),
             Order::ExFirst => self.two_terms(self.ex, sin, self.ey, cos),
             Order::SumFirst => self.sum_first(cos, sin),

@@ -1,10 +1,6 @@
 -- How many floats the vertices of a seamless torus are: as many as those of any rings on its loop.
 -- Assumes nothing.
-use mathlib.Core.Path.{◌≡◌}
-use mathlib.Core.List.{List}
-use Prim.Native.Nat.{ℕ, ◌*◌}
-use lib.Ieee.{Float}
-use lib.ListN.{length}
+use Rattle.std.proofs.Common.{◌≡◌, List, ℕ, ◌*◌, Float, length}
 use Rattle.twists.specs.declared.twist.Twist.{Twist}
 use Rattle.swept_bodies.proofs.Lengths.{length-loop}
 use Rattle.seamless_torus.specs.Polyloop3.{smooth_frame, seamless_vertices}

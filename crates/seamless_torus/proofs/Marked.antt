@@ -1,14 +1,9 @@
 -- With a NaN for a radius the vertices are not all finite: already the first coordinate of the
 -- first vertex is a sum with a product by the radius. Assumes nothing.
-use mathlib.Core.Path.{◌≡◌, refl, ap, ◌∙◌}
-use mathlib.Core.Bool.{false}
-use mathlib.Core.List.{List}
-use Prim.Native.Nat.{ℕ, ◌*◌, ◌≤◌}
-use native.Mathlib.Nat.{mul-le-mul}
-use native.Mathlib.Omega.{arith}
-use lib.Ieee.{Float, binary32, nan}
-use lib.Ieee.Scale.{finite}
-use lib.ListN.{length, get_or}
+use Rattle.std.proofs.Common.{◌≡◌, refl, ap, ◌∙◌, false, List, ℕ, ◌*◌, ◌≤◌, Float, length, get_or, arith}
+use Rattle.std.proofs.Math.Nat.{mul-le-mul}
+use Rattle.std.specs.Float.{binary32, nan}
+use Rattle.std.specs.Float.Ieee.Scale.{finite}
 use Rattle.laws.proofs.Every.{every-fails}
 use Rattle.laws.proofs.Blocks.{get_or-blocks}
 use Rattle.float32.specs.Scan.{all_finite}

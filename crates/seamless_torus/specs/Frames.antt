@@ -1,19 +1,20 @@
--- The frames along a loop as tables, and its ends from what is carried to them. Definitions only.
+-- The frames along a curve as tables, and a loop's ends from what is carried to them. Definitions
+-- only.
 use Rattle.std.specs.Prelude.{◌≡◌, List, ℕ, ◌*◌, ◌≤◌, ◌<◌, Float, length}
 use Rattle.laws.specs.Blocks.{blocks}
 use Rattle.vec3.specs.Points.{coordinates, dot_of, cross_of}
 use Rattle.vec3.specs.declared.points.Point.{Point}
 use Rattle.vec3.specs.declared.frames.Frame.{Frame}
+use Rattle.surface.specs.declared.grid.Chain.{Chain}
 use Rattle.curve.specs.Segments.{point_at}
-use Rattle.curve.specs.Framex.{carried_to}
+use Rattle.curve.specs.Framex.{carried_of, carried_to}
 use Rattle.curve.specs.declared.framex.Carried.{Carried}
-use Rattle.swept_bodies.specs.Tables.{carried_in}
 use Rattle.swept_bodies.specs.Polyloop3.{vtx2framex}
 use Rattle.seamless_torus.specs.declared.frames.Ends.{Ends}
 
--- the frames that are carried along a table of `count` directions
-abbrev pub frames_in : List Float → ℕ → List Float
-frames_in directions count = blocks count (λ g. coordinates (carried_in directions g).frame.ex)
+-- the frames that are carried along the `count` segments of a curve
+abbrev pub frames_in : Chain → ℕ → List Float → List Float
+frames_in chain count c = blocks count (λ g. coordinates (carried_of chain count c g).frame.ex)
 
 -- a table that begins with the frames of a loop of N vertices
 pub record FrameTable (N : ℕ) (c frames : List Float) : Type 0 where

@@ -1,31 +1,27 @@
 ghost use Rattle.std.specs.Prelude.{◌≡◌, ◌-◌, ◌*◌, ◌≤◌, length};
 ghost use Rattle.laws.specs.Overwrite.{overwrite};
-ghost use Rattle.swept_bodies.specs.Tables.{carried_in};
+ghost use Rattle.curve.specs.Framex.{carried_of};
 ghost use Rattle.seamless_torus.specs.Frames.{frames_in, ends_at};
 
-use curve::{Carried, point};
-use ring_writers::put_point;
+use curve::{Carried, put_point};
+use swept_bodies::Spine;
 use vec3::{Frame, Point};
 
-// Writes the frames that are carried along the `count` segments, one after the other, to the front
-// of `frames`, and answers what is carried on the last segment.
-pub(crate) fn fill_frames(count: u16, directions: &[f32], frames: &mut [f32]) -> Carried
-    requires segment { 1 ≤ count }
-    requires directions_room { count * 3 ≤ length directions.now }
-    requires room { count * 3 ≤ length frames.old }
-    ensures carried { result ≡ carried_in directions.now (count - 1) }
-    ensures written { let table = frames_in directions.now count in
-        frames.new ≡ overwrite 0 table frames.old }
+// Writes the frames that are carried along a curve's segments, one after the other, to the front of
+// `frames`, and answers what is carried on the last segment.
+#[tactic(auto, using(curve::proofs::Points::unwritten))]
+pub(crate) fn fill_frames(spine: &Spine, frames: &mut [f32]) -> Carried
+    requires { spine.now.segments.count * 3 ≤ length frames.old }
+    ensures carried { let s = spine.now.segments in
+        result ≡ carried_of s.chain s.count s.curve.now (s.count - 1) }
+    ensures written { let s = spine.now.segments in
+        frames.new ≡ overwrite 0 (frames_in s.chain s.count s.curve.now) frames.old }
 {
-    let mut carried = Carried::first(point(directions, 0));
+    let mut carried = spine.first();
     put_point(frames, 0, carried.frame.ex);
-    let mut k: usize = 3;
-    let mut g: u16 = 1;
-    while g < count {
-        carried = carried.next(point(directions, k));
-        put_point(frames, k, carried.frame.ex);
-        k += 3;
-        g += 1;
+    for g in 1..spine.segments.count as usize {
+        carried = spine.next(g, carried);
+        put_point(frames, g * 3, carried.frame.ex);
     }
     carried
 }
@@ -40,6 +36,7 @@ pub(crate) struct Ends {
 
 // Carries the last frame across vertex 0, onto the first segment, which lies along `u`, and takes
 // its dots with the frame there and with the axis across `u` and that frame.
+#[tactic(auto, unfolding(crate::specs::Frames::ends_at))]
 pub(crate) fn ends_at(last: Carried, u: Point, first: Frame) -> Ends
     ensures { result ≡ ends_at last u first }
 {

@@ -2,73 +2,59 @@ ghost use Rattle.std.specs.Prelude.{◌≡◌, ◌*◌, ◌≤◌, length};
 ghost use Rattle.laws.specs.Overwrite.{overwrite};
 ghost use Rattle.curve.specs.Segments.{vertices_in};
 ghost use Rattle.surface.specs.declared.grid.Chain.TheVariants.{Closed};
-ghost use Rattle.swept_bodies.specs.Tables.{DirectionTable, ClosedCurve};
-ghost use Rattle.swept_bodies.specs.Swept.{ClosedSweep};
+ghost use Rattle.swept_bodies.specs.Tables.{ClosedCurve};
 ghost use Rattle.twists.specs.Chosen.{found_for};
 ghost use Rattle.seamless_torus.specs.Frames.{FrameTable};
 ghost use Rattle.seamless_torus.specs.Polyloop3.{ends_of, ends_finite, twist_of, drawn_radius, seamless_vertices};
 
 use crate::frames::{ends_at, fill_frames};
 use curve::point;
-use ring_writers::{TURN_FLOATS, fill_turns, write_ring};
-use rings::{Axes, Order, Ring};
-use swept_bodies::Sweep;
+use ring_writers::Turns;
+use rings::Axes;
+use swept_bodies::{Spine, Sweep};
 use twists::{Found, Twist, search, twisted};
 use vec3::Frame;
 
 // Fills the table of frames and finds the twist of the loop.
-// The curve is here only so that the contract can name it.
-fn find_twist(curve: &[f32], count: u16, directions: &[f32], frames: &mut [f32]) -> Found
-    requires segment { 1 ≤ count }
-    requires table { DirectionTable Closed count curve.now directions.now }
-    requires frames_room { count * 3 ≤ length frames.old }
-    ensures found { result ≡ found_for (ends_of count curve.now).c0 (ends_of count curve.now).s0 }
-    ensures frame_table { FrameTable count curve.now frames.new }
+fn find_twist(spine: &Spine, frames: &mut [f32]) -> Found
+    requires on_loop { spine.now.segments.chain ≡ Closed }
+    requires frames_room { spine.now.segments.count * 3 ≤ length frames.old }
+    ensures found { let ends = ends_of spine.now.segments.count spine.now.segments.curve.now in
+        result ≡ found_for ends.c0 ends.s0 }
+    ensures frame_table { FrameTable spine.now.segments.count spine.now.segments.curve.now frames.new }
 {
-    let last = fill_frames(count, directions, frames);
+    let last = fill_frames(spine, frames);
     let first = Frame {
         ex: point(frames, 0),
     };
-    let at = ends_at(last, point(directions, 0), first);
+    let at = ends_at(last, spine.direction(0), first);
     search(at.c0, at.s0)
 }
 
-// Writes the rings at all vertices of the loop, from the tables of its directions and of the
-// frames carried along them.
-fn write_rings(
-    out: &mut [f32],
-    sweep: Sweep,
-    curve: &[f32],
-    directions: &[f32],
-    frames: &[f32],
-    twist: Twist,
-    turns: &[f32],
-)
-    requires closed_sweep { ClosedSweep sweep curve.now directions.now turns.now }
-    requires frame_table { FrameTable sweep.segments curve.now frames.now }
-    requires room { sweep.segments * (sweep.divisions * 3) ≤ length out.old }
-    ensures { let c = curve.now in
-        let rings = seamless_vertices twist sweep.divisions sweep.radius sweep.segments c in
+// Writes the rings at all vertices of the loop, from the table of the frames that were carried
+// along it.
+#[tactic(auto, using(curve::proofs::Points::unwritten))]
+fn write_rings(out: &mut [f32], sweep: &Sweep, frames: &[f32], twist: Twist)
+    requires on_loop { sweep.now.spine.segments.chain ≡ Closed }
+    requires frame_table { let s = sweep.now.spine.segments in FrameTable s.count s.curve.now frames.now }
+    requires room { sweep.now.spine.segments.count * (sweep.now.turns.now * 3) ≤ length out.old }
+    ensures { let s = sweep.now.spine.segments in
+        let rings = seamless_vertices twist sweep.now.turns.now sweep.now.radius s.count s.curve.now in
         out.new ≡ overwrite 0 rings out.old }
 {
-    let order = sweep.order;
-    let count = sweep.segments;
-    let n = sweep.divisions as usize;
-    let mut place: usize = 0;
-    let mut k: usize = 0;
-    let mut g: u16 = 0;
-    while g < count {
+    // Copied, so that the compiler need not read it again after each ring that it writes.
+    let sweep = *sweep;
+    let spine = sweep.spine;
+    let size = sweep.turns.ring_floats();
+    let count = spine.segments.count;
+    for g in 0..count {
+        let k = g as usize;
         let carried = Frame {
-            ex: point(frames, k),
+            ex: point(frames, k * 3),
         };
-        let ez = point(directions, k);
+        let ez = spine.direction(k);
         let frame = twisted(carried, ez, twist.share(g, count));
-        let axes = Axes::at(curve::vertex(curve, g as usize), frame, ez);
-        let ring = Ring::around(order, axes, axes.origin, sweep.radius);
-        write_ring(out, place, ring, n, turns);
-        place += n * 3;
-        k += 3;
-        g += 1;
+        sweep.write_ring(out, k * size, Axes::at(spine.vertex(k), frame, ez));
     }
 }
 
@@ -77,10 +63,7 @@ fn write_rings(
 fn drawn_radius(radius: f32, finite: bool) -> f32
     ensures { result ≡ drawn_radius radius finite }
 {
-    if finite {
-        return radius;
-    }
-    0.0 / 0.0
+    if finite { radius } else { f32::NAN }
 }
 
 // Writes the vertices of a seamless torus to the front of `out`. `frames` is scratch space.
@@ -101,15 +84,14 @@ pub fn to_trimesh3_seamless_torus(
         out.new
         ≡ overwrite 0 (seamless_vertices (twist_of N c) n (drawn_radius r (ends_finite N c)) N c) out.old }
 {
-    let count = (curve.len() / 3) as u16;
-    let found = find_twist(curve, count, directions, frames);
-    let mut turns = [0.0f32; TURN_FLOATS];
-    fill_turns(n, &mut turns);
+    let spine = Spine::closed(curve, directions);
+    let found = find_twist(&spine, frames);
+    let mut turns = Turns::none();
+    turns.fill(n);
     let sweep = Sweep {
-        order: Order::SumFirst,
-        segments: count,
-        divisions: n,
+        spine,
+        turns: &turns,
         radius: drawn_radius(r, found.finite),
     };
-    write_rings(out, sweep, curve, directions, frames, found.twist, &turns);
+    write_rings(out, &sweep, frames, found.twist);
 }

@@ -1,16 +1,17 @@
 -- How many floats the vertices of each swept kind are. Assumes nothing.
-use mathlib.Core.Path.{◌≡◌, refl, ap, ◌∙◌}
-use mathlib.Core.List.{List}
-use Prim.Native.Nat.{ℕ, ◌+◌, ◌-◌, ◌*◌, ◌≤◌}
-use native.Mathlib.Omega.{arith}
-use lib.Ieee.{Float}
-use lib.ListN.{length, length-append}
+use Rattle.std.proofs.Common.{◌≡◌, refl, ap, ◌∙◌, List, ℕ, ◌+◌, ◌-◌, ◌*◌, ◌≤◌, Float, length, length-append, arith}
 use Rattle.laws.specs.Blocks.{blocks}
 use Rattle.laws.proofs.Blocks.{length-blocks}
 use Rattle.surface.specs.declared.caps.End.TheVariants.{Bottom, Top}
 use Rattle.vec3.specs.declared.frames.Frame.{Frame}
 use Rattle.rings.specs.Vertices.{tube_vertex, torus_vertex}
-use Rattle.ring_writers.proofs.Lengths.{length-rings, length-cap}
+use Rattle.rings.specs.declared.axes.Axes.{Axes}
+use Rattle.surface.specs.declared.grid.Chain.{Chain}
+use Rattle.surface.specs.declared.grid.Chain.TheVariants.{Open, Closed}
+use Rattle.ring_writers.proofs.Lengths.{length-ring, length-rings, length-cap, length-end}
+use Rattle.swept_bodies.specs.Swept.{ring_about, axes_inner, inner_rings, end_part, end_floats}
+use Rattle.swept_bodies.specs.declared.ending.Ending.{Ending}
+use Rattle.swept_bodies.specs.declared.ending.Ending.TheVariants.{Rings, Caps, Joined}
 use Rattle.swept_bodies.specs.Polyline3.{axes_of, tube_vertices, ribbon_part, ribbon_vertices}
 use Rattle.swept_bodies.specs.Polyloop3 as polyloop3
 use Rattle.swept_bodies.specs.Capsule.{capsule_vertices}
@@ -42,3 +43,19 @@ length-loop frame n r N c = length-rings (λ g. torus_vertex (polyloop3.axes_of 
 pub length-torus : (n : ℕ) (r : Float) (N : ℕ) (c : List Float)
     → length (polyloop3.torus_vertices n r N c) ≡ N * (n * 3)
 length-torus n r N c = length-loop (polyloop3.vtx2framex N c) n r N c
+
+-- a ring on any curve, what stands at the first vertex, and the rings between two segments
+pub length-about : (chain : Chain) (n : ℕ) (r : Float) (a : Axes) → length (ring_about chain n r a) ≡ n * 3
+length-about Open n r a = length-ring (tube_vertex a r) n
+length-about Closed n r a = length-ring (torus_vertex a r) n
+
+pub length-first : (ending : Ending) (chain : Chain) (n : ℕ) (r : Float) (a : Axes)
+    → length (end_part ending Bottom chain n r a) ≡ end_floats ending Bottom (n * 3)
+length-first Rings chain n r a = length-about chain n r a
+length-first (Caps L) chain n r a = length-end Bottom a r L n
+length-first Joined chain n r a = length-about chain n r a
+
+pub length-inner : (chain : Chain) (n : ℕ) (r : Float) (m : ℕ) (c : List Float)
+    → length (inner_rings chain n r m c) ≡ (m - 1) * (n * 3)
+length-inner chain n r m c = length-blocks (n * 3) (m - 1) (λ k. ring_about chain n r (axes_inner chain m c (k + 1)))
+    (λ k h. length-about chain n r (axes_inner chain m c (k + 1)))

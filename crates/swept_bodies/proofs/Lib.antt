@@ -1,4 +1,5 @@
+pub mod Tables
 pub mod Axes
 pub mod Parts
 pub mod Lengths
-pub mod Tables
+pub mod Later

@@ -1,12 +1,11 @@
--- The tables that the writers along one curve share: the directions of its segments, what is
--- carried along them, and ez at its vertices. A table has its points one after the other, three
--- floats each. Definitions only.
-use Rattle.std.specs.Prelude.{◌≡◌, List, ℕ, zero, suc, ◌-◌, ◌*◌, ◌≤◌, ◌<◌, Float, length}
+-- The tables that the writers along one curve share: the directions of its segments, and ez at its
+-- vertices between two segments. A table has its points one after the other, three floats each.
+-- Definitions only.
+use Rattle.std.specs.Prelude.{◌≡◌, List, ℕ, ◌-◌, ◌*◌, ◌≤◌, ◌<◌, Float, length}
 use Rattle.surface.specs.declared.grid.Chain.{Chain}
 use Rattle.surface.specs.declared.grid.Chain.TheVariants.{Open, Closed}
+use Rattle.vec3.specs.declared.points.Point.{Point}
 use Rattle.curve.specs.Segments.{vertices_in, point_at, segment_direction}
-use Rattle.curve.specs.Framex.{carried_on, carried_to}
-use Rattle.curve.specs.declared.framex.Carried.{Carried}
 use Rattle.rings.specs.Axes.{between_of}
 
 -- the directions of a curve's segments
@@ -26,13 +25,13 @@ pub record ClosedCurve (c directions : List Float) : Type 0 where
   pub most : vertices_in c ≤ 4096
   pub table : DirectionTable Closed (vertices_in c) c directions
 
--- ez at the vertices of an open curve between two segments, by the table of its directions
-pub record EzTable (count : ℕ) (directions table : List Float) : Type 0 where
-  pub room : count * 3 ≤ length table
-  pub between : (g : ℕ) → 1 ≤ g → g < count
-      → point_at table (g * 3) ≡ between_of (point_at directions ((g - 1) * 3)) (point_at directions (g * 3))
+-- ez at vertex g between two segments: on an open curve "inside the normalised sum of the two
+-- normalised segments", on a loop "the segment leaving the vertex"
+abbrev pub ez_between : Chain → ℕ → List Float → ℕ → Point
+ez_between Open m c g = between_of (segment_direction Open m c (g - 1)) (segment_direction Open m c g)
+ez_between Closed N c g = segment_direction Closed N c g
 
--- What is carried to segment g, by the table of directions: from each segment to the next.
-abbrev pub carried_in : List Float → ℕ → Carried
-carried_in directions zero = carried_on (point_at directions 0)
-carried_in directions (suc g) = carried_to (carried_in directions g) (point_at directions (suc g * 3))
+-- a table of them, the one at vertex g from index 3g on
+pub record EzTable (chain : Chain) (count : ℕ) (c table : List Float) : Type 0 where
+  pub room : count * 3 ≤ length table
+  pub between : (g : ℕ) → 1 ≤ g → g < count → point_at table (g * 3) ≡ ez_between chain count c g

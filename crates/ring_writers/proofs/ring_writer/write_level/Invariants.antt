@@ -1,17 +1,10 @@
--- Each turn of the loop writes one vertex after the one before. Assumes nothing.
-use mathlib.Core.Path.{◌≡◌}
-use Prim.Native.Nat.{◌*◌, ◌-◌, ◌≤◌}
+-- Each turn of the loop writes one vertex after those before it.
+use Rattle.std.proofs.Common.{◌≡◌}
 use Rattle.laws.specs.Overwrite.{overwrite}
 use Rattle.laws.specs.Blocks.{blocks}
 use Rattle.rings.specs.Vertices.{vertex_on, level_at}
 use Rattle.ring_writers.proofs.ring_writer.write_level.Given as goal
 
 abbrev pub invariant-loop-i : goal.invariant-loop-i
-invariant-loop-i l = record {
-  written : l.out ≡ overwrite l.at (blocks l.i (vertex_on (level_at l.radius l.y) l.n)) l.initial.out;
-  place : l.k ≡ l.i * 3;
-  within : l.i ≤ l.n;
-}
-
-abbrev pub decreases-loop-i : goal.decreases-loop-i
-decreases-loop-i l = l.n - l.i
+invariant-loop-i l =
+    l.out ≡ overwrite l.at (blocks l.i (vertex_on (level_at l.radius l.y) l.turns)) l.initial.out

@@ -1,10 +1,9 @@
--- Each arm returns what `cond` picks for the value of the flag in that arm, and 0/0 is a NaN.
+-- The value of the flag picks the arm of the definition, and the constant's pattern is a NaN's.
 -- Assumes nothing.
-use Rattle.float32.proofs.NanPatterns.{zero-over-zero}
+use Rattle.std.proofs.Common.{refl}
+use Rattle.std.specs.Float.Ieee.{of_bits}
 use Rattle.seamless_torus.proofs.polyloop3.drawn_radius.Goals as goal
 
-pub returns-then-finite : goal.returns-then-finite
-returns-then-finite c = rw c.if-finite.true
-
-pub returns : goal.returns
-returns c = rw c.if-finite.false zero-over-zero
+pub returns-else-finite : goal.returns-else-finite
+unfolding of_bits
+returns-else-finite c = rw c.if-finite.false refl

@@ -1,6 +1,5 @@
 -- Two points, one after the other. Assumes nothing.
-use mathlib.Core.Path.{refl, ap, ◌∙◌}
-use mathlib.Core.List.{◌++◌}
+use Rattle.std.proofs.Common.{refl, ap, ◌∙◌, ◌++◌}
 use Rattle.laws.specs.Overwrite.{overwrite}
 use Rattle.laws.proofs.Overwrite.{written_behind}
 use Rattle.vec3.specs.Points.{coordinates, sum_of}

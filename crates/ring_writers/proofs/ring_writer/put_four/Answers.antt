@@ -1,0 +1,11 @@
+-- Each turn of the loop writes one point after those before it. Assumes nothing.
+use Rattle.std.proofs.Common.{refl, arith}
+use Rattle.curve.proofs.Points.{point_written}
+use Rattle.rings.specs.Rings.{point_in}
+use Rattle.ring_writers.proofs.ring_writer.put_four.Goals as goal
+
+pub loop-k-preserved : goal.loop-k-preserved
+loop-k-preserved c =
+    let l = c.loop-k in
+    let a = c.args in
+    point_written a.at l.k (point_in a.points) a.out.now l.invariant (omega arith) c.put_point.ensures refl

@@ -1,0 +1,116 @@
+ghost use Rattle.std.specs.Prelude.{◌≡◌, ◌-◌, ◌*◌, ◌≤◌, ◌<◌, length};
+ghost use Rattle.surface.specs.declared.grid.Chain.TheVariants.{Open, Closed};
+ghost use Rattle.curve.specs.Segments.{vertices_in, vertex_of, segment_direction};
+ghost use Rattle.curve.specs.Framex.{carried_of};
+ghost use Rattle.swept_bodies.specs.Swept.{axes_on};
+ghost use Rattle.swept_bodies.specs.Tables.{DirectionTable, OpenCurve, ClosedCurve, EzTable};
+
+use curve::{Carried, Segments, point, put_point};
+use rings::{Axes, framez};
+use surface::Chain;
+use vec3::Point;
+
+// The segments of a curve along which a body lies, one at least, and the table of their directions.
+#[derive(Clone, Copy)]
+pub struct Spine<'a> {
+    pub segments: Segments<'a>,
+    pub directions: &'a [f32],
+    pub ghost segment: { 1 ≤ segments.count },
+    pub ghost table: { DirectionTable segments.chain segments.count segments.curve.now directions.now },
+}
+
+impl<'a> Spine<'a> {
+    // An open curve, whose segments are one fewer than its vertices.
+    pub(crate) fn open(curve: &'a [f32], directions: &'a [f32]) -> Self
+        requires { OpenCurve curve.now directions.now }
+        ensures chain { result.segments.chain ≡ Open }
+        ensures count { result.segments.count ≡ vertices_in curve.now - 1 }
+        ensures same { result.segments.curve.now ≡ curve.now }
+    {
+        let segments = Segments {
+            chain: Chain::Open,
+            count: (curve.len() / 3 - 1) as u16,
+            curve,
+        };
+        Spine {
+            segments,
+            directions,
+        }
+    }
+
+    // A loop, whose segments are as many as its vertices.
+    pub fn closed(curve: &'a [f32], directions: &'a [f32]) -> Self
+        requires { ClosedCurve curve.now directions.now }
+        ensures chain { result.segments.chain ≡ Closed }
+        ensures count { result.segments.count ≡ vertices_in curve.now }
+        ensures same { result.segments.curve.now ≡ curve.now }
+    {
+        let segments = Segments {
+            chain: Chain::Closed,
+            count: (curve.len() / 3) as u16,
+            curve,
+        };
+        Spine {
+            segments,
+            directions,
+        }
+    }
+
+    // Vertex `k` of the curve.
+    pub fn vertex(&self, k: usize) -> Point
+        ensures { result ≡ vertex_of self.now.segments.curve.now k }
+    {
+        curve::vertex(self.segments.curve, k)
+    }
+
+    // The direction of segment `k`.
+    pub fn direction(&self, k: usize) -> Point
+        requires { k < self.now.segments.count }
+        ensures { let s = self.now.segments in result ≡ segment_direction s.chain s.count s.curve.now k }
+    {
+        point(self.directions, k * 3)
+    }
+
+    // What is carried on the first segment.
+    #[tactic(auto, using(curve::proofs::Carry::carried_first))]
+    pub fn first(&self) -> Carried
+        ensures { let s = self.now.segments in result ≡ carried_of s.chain s.count s.curve.now 0 }
+    {
+        Carried::first(self.direction(0))
+    }
+
+    // What is carried on segment `k`, from what is carried on the one before it. Nowhere else are
+    // frames carried along a curve.
+    #[tactic(auto, using(crate::proofs::Axes::carried_after))]
+    pub fn next(&self, k: usize, before: Carried) -> Carried
+        requires inner { 1 ≤ k }
+        requires within { k < self.now.segments.count }
+        requires carried { let s = self.now.segments in before ≡ carried_of s.chain s.count s.curve.now (k - 1) }
+        ensures { let s = self.now.segments in result ≡ carried_of s.chain s.count s.curve.now k }
+    {
+        before.next(self.direction(k))
+    }
+
+    // The axes at vertex `k`, with ez along the segment that the frame has been carried to: at the
+    // ends of an open curve, and at a loop's first vertex.
+    pub(crate) fn axes_on(&self, k: usize, carried: Carried) -> Axes
+        ensures { result ≡ axes_on self.now.segments.curve.now k carried }
+    {
+        Axes::at(self.vertex(k), carried.frame, carried.direction)
+    }
+
+    // Fills the table of ez at an open curve's vertices between two segments, the one at vertex g
+    // from index 3g on. It is filled before the first ring is written, because square roots that
+    // wait neither for each other nor for a ring take a third of the time.
+    #[tactic(auto, using(curve::proofs::Points::unwritten))]
+    pub(crate) fn fill_framez(&self, out: &mut [f32])
+        requires open { self.now.segments.chain ≡ Open }
+        requires room { self.now.segments.count * 3 ≤ length out.old }
+        ensures { let s = self.now.segments in EzTable s.chain s.count s.curve.now out.new }
+    {
+        for g in 1..self.segments.count as usize {
+            let ez = framez(self.direction(g - 1), self.direction(g));
+            put_point(out, g * 3, ez);
+        }
+    }
+}
