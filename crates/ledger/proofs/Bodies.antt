@@ -1,13 +1,6 @@
 -- A body of permitted numbers has the shape that demand 3 claims, and a body that is added has
 -- permitted numbers: those of its description, whose kind and n they fit. Assumes nothing.
-use mathlib.Core.Path.{◌≡◌, refl, sym, ap, subst, ◌∙◌}
-use mathlib.Core.Bool.{Bool, true, false, ◌||◌}
-use mathlib.Core.List.{List, [], ◌∷◌}
-use Prim.Native.Nat.{ℕ, ◌+◌, ◌-◌, ◌*◌, ◌/◌}
-use native.Mathlib.Omega.{arith}
-use borrow.Author.Tests.{eqb-true}
-use lib.Dec.{eqb}
-use lib.ListN.{length}
+use Rattle.std.proofs.Common.{◌≡◌, refl, sym, ap, subst, ◌∙◌, Bool, true, false, ◌||◌, List, [], ◌∷◌, ℕ, ◌+◌, ◌-◌, ◌*◌, ◌/◌, arith, eqb-true, eqb, length}
 use Rattle.laws.proofs.Conjunction.{both_true}
 use Rattle.float32.specs.Scan.{all_finite}
 use Rattle.surface.specs.Triangles.{Triangle, triangle, flatten, shift}

@@ -1,22 +1,15 @@
 -- Demand 3: after any list of additions, from a ledger that the buffers hold or after a clear, the
 -- buffers are the ledger's, which is told of each addition with the k that add takes. It holds
 -- call by call. Assumes nothing.
-use mathlib.Core.Path.{◌≡◌, refl, sym, ap, subst, ◌∙◌}
-use mathlib.Core.List.{List, [], ◌∷◌, ◌++◌}
-use mathlib.Core.Logic.{⊎_elim, inl}
-use Prim.Native.Nat.{ℕ, ◌≤◌}
-use native.Mathlib.Omega.{arith}
-use borrow.Author.Tests.{leb-true}
-use lib.Dec.{leb}
-use lib.Ieee.{Float}
-use lib.ListN.{length, drop}
+use Rattle.std.proofs.Common.{◌≡◌, refl, sym, ap, subst, ◌∙◌, List, [], ◌∷◌, ◌++◌, ⊎_elim, inl, ℕ, ◌≤◌, arith, leb-true, leb, Float, length, drop}
 use Rattle.laws.specs.Overwrite.{overwrite}
 use Rattle.laws.proofs.Overwrite.{overwrite-none, length-overwrite}
 use Rattle.laws.proofs.Overlaps.{overwrite-front, overwrite-cover}
 use Rattle.answers.specs.Answers.{accepted, test}
 use Rattle.answers.proofs.FirstOf.{accepted-by}
 use Rattle.set_table.specs.Entries.{all_words}
-use Rattle.set_table.specs.Room.{Lengths, lengths}
+use Rattle.set_table.specs.Room.{lengths}
+use Rattle.set_table.specs.declared.lengths.Lengths.{Lengths}
 use Rattle.set_table.specs.Buffers.{Buffers, buffers, lengths_of}
 use Rattle.bodies.proofs.Best.{taken-best}
 use Rattle.shared_set.specs.Additions.{Addition}
@@ -27,7 +20,7 @@ use Rattle.ledger.specs.Ledger.{set_table, set_vertices, set_triangles, zeroed_b
 use Rattle.ledger.specs.Calls.{Called, Call, told, tell, answered, additions, cleared_set, clear_and_add}
 use Rattle.ledger.specs.Shapes.{HasBest, EachBest, EachAdded, Grown}
 use Rattle.ledger.specs.Holds.{begins_with, Limited, Holds}
-use Rattle.ledger.specs.Demand3.{FromHeld, AfterClear, Demand3, ledger_of, zeroed_vertices}
+use Rattle.ledger.specs.Demand3.{FromHeld, AfterClear, Demand3, ledger_of}
 use Rattle.ledger.proofs.Sizes.{length-table, length-set-vertices, length-set-triangles}
 use Rattle.ledger.proofs.Packing.{packed, Kept, packed-held, one, kept_next}
 

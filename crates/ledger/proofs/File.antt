@@ -1,11 +1,5 @@
 -- In buffers that hold a ledger the file's words are those of the ledger's set. Assumes nothing.
-use mathlib.Core.Path.{◌≡◌, refl, sym, ap, ◌∙◌}
-use mathlib.Core.Bool.{cond}
-use mathlib.Core.List.{List, [], ◌∷◌, ◌++◌}
-use Prim.Native.Nat.{ℕ, ◌*◌, ◌≤◌}
-use native.Mathlib.Omega.{arith}
-use lib.Ieee.{Float}
-use lib.ListN.{length}
+use Rattle.std.proofs.Common.{◌≡◌, sym, ap, ◌∙◌, cond, List, ℕ, ◌*◌, ◌≤◌, arith, length}
 use Rattle.laws.specs.Parts.{part}
 use Rattle.laws.specs.Overwrite.{overwrite}
 use Rattle.laws.proofs.Overlaps.{overwrite-front}
@@ -14,7 +8,6 @@ use Rattle.answers.specs.Answers.{refused}
 use Rattle.set_table.specs.Entries.{entries_in}
 use Rattle.set_table.specs.Table.{totals_in, undamaged}
 use Rattle.set_table.specs.Buffers.{Buffers}
-use Rattle.set_table.specs.declared.entries.Entry.{Entry}
 use Rattle.set_table.specs.declared.totals.Totals.{Totals}
 use Rattle.set_file.specs.File.{file_of, entries_held, floats_held, indices_held, file_in, word_in, file_word_of}
 use Rattle.ledger.specs.Ledger.{Ledger, body_count, vertex_sum, triangle_sum, totals_of, entries_of, set_table}

@@ -1,15 +1,6 @@
 -- An addition to buffers that begin with a ledger's set leaves buffers that begin with the next
 -- ledger's. Assumes nothing.
-use mathlib.Core.Path.{◌≡◌, refl, sym, ap, subst, ◌∙◌}
-use mathlib.Core.Bool.{Bool, true, false, cond}
-use mathlib.Core.List.{List, [], ◌∷◌, ◌++◌}
-use mathlib.Core.Logic.{inr}
-use Prim.Native.Nat.{ℕ, ◌+◌, ◌*◌, ◌≤◌}
-use native.Mathlib.Nat.{add-zero}
-use native.Mathlib.Omega.{arith}
-use lib.Dec.{eqb}
-use lib.Ieee.{Float}
-use lib.ListN.{length}
+use Rattle.std.proofs.Common.{◌≡◌, refl, sym, ap, subst, ◌∙◌, Bool, true, false, cond, List, [], ◌∷◌, ◌++◌, inr, ℕ, ◌+◌, ◌*◌, ◌≤◌, add-zero, arith, eqb, Float, length}
 use Rattle.laws.specs.Overwrite.{overwrite}
 use Rattle.laws.proofs.Overwrite.{length-overwrite, overwrite-append}
 use Rattle.laws.proofs.Overlaps.{overwrite-head, overwrite-swap}
@@ -22,8 +13,9 @@ use Rattle.answers.proofs.FirstOf.{accepted-by, both-permitted}
 use Rattle.descriptions.specs.Descriptions.{topology_of}
 use Rattle.descriptions.specs.Refusals.{checked_tests}
 use Rattle.descriptions.proofs.Shapes.{checked-shape}
-use Rattle.set_table.specs.Entries.{table_words, words_of, all_words}
-use Rattle.set_table.specs.Room.{Lengths, lengths}
+use Rattle.set_table.specs.Entries.{words_of, all_words}
+use Rattle.set_table.specs.Room.{lengths}
+use Rattle.set_table.specs.declared.lengths.Lengths.{Lengths}
 use Rattle.set_table.specs.Buffers.{Buffers, buffers, lengths_of}
 use Rattle.set_table.specs.Table.{with_entry}
 use Rattle.set_table.proofs.Fitting.{fitting}

@@ -1,22 +1,15 @@
 -- A table that begins with a ledger's set is not damaged, and says what the ledger says. Assumes
 -- nothing.
-use mathlib.Core.Path.{◌≡◌, refl, sym, ap, subst, ◌∙◌}
-use mathlib.Core.Bool.{true, ◌&&◌}
-use mathlib.Core.List.{List, [], ◌∷◌, ◌++◌, append_assoc, append-nil}
-use Prim.Native.Nat.{ℕ, ◌+◌, ◌≤◌}
-use native.Mathlib.Numerals.{add-one}
-use native.Mathlib.Omega.{arith}
-use borrow.Author.Tests.{eq-eqb}
-use lib.ListN.{length}
+use Rattle.std.proofs.Common.{◌≡◌, refl, sym, ap, subst, ◌∙◌, true, ◌&&◌, List, [], ◌∷◌, ◌++◌, append_assoc, append-nil, ℕ, ◌+◌, ◌≤◌, add-one, arith, eq-eqb, length}
 use Rattle.laws.specs.Parts.{part}
 use Rattle.laws.specs.Overwrite.{overwrite}
 use Rattle.laws.proofs.Overwrite.{length-overwrite, get_or-within, overwrite-append}
 use Rattle.laws.proofs.Overlaps.{overwrite-swap}
 use Rattle.laws.proofs.Lent.{part-written}
 use Rattle.laws.specs.Every.{every}
-use Rattle.set_table.specs.Entries.{entry_words, words_of, entry_from, table_words, entry_in, entries_in, all_words}
+use Rattle.set_table.specs.Entries.{entry_words, words_of, entry_from, table_words, entry_in, entries_in, all_words, entry_totals}
 use Rattle.set_table.specs.Room.{lengths}
-use Rattle.set_table.specs.Table.{bodies_in, vertices_before, triangles_before, entry_sound, sound_at}
+use Rattle.set_table.specs.Table.{bodies_in, totals_before, entry_sound, sound_at}
 use Rattle.set_table.specs.Table.{undamaged, totals_in}
 use Rattle.set_table.specs.declared.totals.Totals.{Totals}
 use Rattle.set_table.proofs.Tables.{reads-undamaged}
@@ -27,7 +20,7 @@ use Rattle.ledger.specs.Ledger.{entries_of, set_table}
 use Rattle.ledger.specs.Shapes.{EachShaped}
 use Rattle.ledger.specs.Holds.{Limited}
 use Rattle.ledger.proofs.Bodies.{kind-known}
-use Rattle.ledger.proofs.Sizes.{length-table}
+use Rattle.ledger.proofs.Sizes.{length-table, entries-totals}
 
 -- the entries of T are the ledger's
 abbrev Begins : Ledger → List ℕ → Type 0
@@ -61,36 +54,28 @@ begins (then L b) n more T room =
     subst (λ (l : List ℕ). Begins (then L b) (overwrite 0 (n ∷ l) T)) (sym list)
     (begins L n (words_of e ++ more) T (omega arith), ap entry_from here)
 
-vertices-read : (L : Ledger) (T : List ℕ) → Begins L T → vertices_before (entry_in T) (body_count L) ≡ vertex_sum L
-vertices-read empty T h = refl
-vertices-read (then L b) T h =
-    ap (vertices_before (entry_in T)) (add-one (body_count L))
-    ∙ (λ j. vertices-read L T h.0 j + (h.1 j).vertices) ∙ omega arith
-
-triangles-read : (L : Ledger) (T : List ℕ) → Begins L T → triangles_before (entry_in T) (body_count L) ≡ triangle_sum L
-triangles-read empty T h = refl
-triangles-read (then L b) T h =
-    ap (triangles_before (entry_in T)) (add-one (body_count L))
-    ∙ (λ j. triangles-read L T h.0 j + (h.1 j).triangles)
-
 same_entries : (L : Ledger) (T : List ℕ) → Begins L T → entries_in T (body_count L) ≡ entries_of L
 same_entries empty T h = refl
 same_entries (then L b) T h =
     ap (entries_in T) (add-one (body_count L)) ∙ (λ j. same_entries L T h.0 j ++ (h.1 j ∷ []))
 
+-- what they add up to
+same_totals : (L : Ledger) (T : List ℕ) → Begins L T → totals_before T (body_count L) ≡ totals_of L
+same_totals L T h = ap entry_totals (same_entries L T h) ∙ entries-totals L
+
 entry-sound : (L : Ledger) (b : Body) → EachShaped (then L b)
-    → entry_sound (entry_of (totals_of L) b) (vertex_sum L) (triangle_sum L) ≡ true
+    → entry_sound (entry_of (totals_of L) b) (totals_of L) ≡ true
 unfolding entry_sound
 entry-sound L b s =
     λ j. kind-known (vertex_sum L) b s.1 j && (eq-eqb (vertex_sum L) (vertex_sum L) refl j && eq-eqb (triangle_sum L) (triangle_sum L) refl j)
 
 entries-sound : (L : Ledger) (T : List ℕ) → EachShaped L → Begins L T
-    → every (body_count L) (sound_at (entry_in T)) ≡ true
+    → every (body_count L) (sound_at T) ≡ true
 entries-sound empty T s h = refl
 entries-sound (then L b) T s h =
-    let here : sound_at (entry_in T) (body_count L) ≡ true =
-    (λ j. entry_sound (h.1 j) (vertices-read L T h.0 j) (triangles-read L T h.0 j)) ∙ entry-sound L b s in
-    ap (λ (k : ℕ). every k (sound_at (entry_in T))) (add-one (body_count L)) ∙ (λ j. entries-sound L T s.0 h.0 j && here j)
+    let here : sound_at T (body_count L) ≡ true =
+    (λ j. entry_sound (h.1 j) (same_totals L T h.0 j)) ∙ entry-sound L b s in
+    ap (λ (k : ℕ). every k (sound_at T)) (add-one (body_count L)) ∙ (λ j. entries-sound L T s.0 h.0 j && here j)
 
 module _ (L : Ledger) (T₀ : List ℕ) (vertices triangles : ℕ) (held : Limited (lengths (length T₀) vertices triangles) L) where
   abbrev T : List ℕ
@@ -109,24 +94,21 @@ module _ (L : Ledger) (T₀ : List ℕ) (vertices triangles : ℕ) (held : Limit
   entries-read = same_entries L T there
 
   pub totals-read : totals_in T ≡ totals_of L
-  totals-read =
-      let v = ap (vertices_before (entry_in T)) count-read ∙ vertices-read L T there in
-      let t = ap (triangles_before (entry_in T)) count-read ∙ triangles-read L T there in
-      (λ j. record { bodies = count-read j; vertices = v j; triangles = t j })
+  totals-read = ap (totals_before T) count-read ∙ same_totals L T there
 
   pub not-damaged : EachShaped L → undamaged T vertices triangles ≡ true
   not-damaged s =
       let sized = length-overwrite 0 (set_table L) T₀ in
+      let b = ap (λ (t : Totals). t.bodies) totals-read in
       let v = ap (λ (t : Totals). t.vertices) totals-read in
       let t = ap (λ (t : Totals). t.triangles) totals-read in
       reads-undamaged T vertices triangles
       (record {
-        some = omega (arith, sized, held.entries);
-        few = omega (arith, count-read, held.few);
-        held = omega (arith, sized, count-read, held.entries);
+        few = omega (arith, b, held.few);
+        held = omega (arith, sized, b, held.entries);
         vertices = omega (arith, v, held.vertices.0);
         vertices-held = omega (arith, v, held.vertices.1);
         triangles = omega (arith, t, held.triangles.0);
         triangles-held = omega (arith, t, held.triangles.1);
       })
-      (ap (λ (k : ℕ). every k (sound_at (entry_in T))) count-read ∙ entries-sound L T s there)
+      (ap (λ (k : ℕ). every k (sound_at T)) count-read ∙ entries-sound L T s there)

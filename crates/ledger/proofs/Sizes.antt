@@ -1,12 +1,8 @@
 -- How long the ledger's set is. Assumes nothing.
-use mathlib.Core.Path.{◌≡◌, refl, ap, ◌∙◌}
-use mathlib.Core.List.{[], ◌∷◌, ◌++◌}
-use Prim.Native.Nat.{◌+◌, ◌*◌}
-use native.Mathlib.Omega.{arith}
-use lib.ListN.{length, length-append}
-use Rattle.set_table.specs.Entries.{entry_words, table_words, words_of, all_words, vertex_total, entry_totals}
+use Rattle.std.proofs.Common.{◌≡◌, refl, ap, ◌∙◌, ◌+◌, ◌*◌, arith, length, length-append}
+use Rattle.set_table.specs.Entries.{entry_words, table_words, words_of, all_words, entry_totals}
 use Rattle.set_table.specs.declared.totals.Totals.{Totals}
-use Rattle.set_table.proofs.Words.{all-words-next, vertex-total-next, triangle-total-next}
+use Rattle.set_table.proofs.Words.{all-words-next, totals-next}
 use Rattle.shared_set.specs.Bodies.{Body, triangle_count_in, entry_of}
 use Rattle.ledger.specs.Ledger.{Ledger, empty, then, body_count, vertex_sum, triangle_sum, totals_of}
 use Rattle.ledger.specs.Ledger.{entries_of, set_table, set_vertices, last_triangles, set_triangles}
@@ -43,8 +39,10 @@ entries-totals empty = refl
 entries-totals (then L b) =
     let e = entry_of (totals_of L) b in
     let before = entries-totals L in
-    let count = length-append (entries_of L) (e ∷ []) ∙ ap (λ (t : Totals). t.bodies + 1) before in
-    let vertices : vertex_total (entries_of L ++ (e ∷ [])) ≡ vertex_sum (then L b) =
-    omega (arith, vertex-total-next (entries_of L) e, ap (λ (t : Totals). t.vertices) before) in
-    let triangles = triangle-total-next (entries_of L) e ∙ ap (λ (t : Totals). t.triangles + e.triangles) before in
-    λ i. record { bodies = count i; vertices = vertices i; triangles = triangles i }
+    let vertices : vertex_sum L + e.vertices ≡ vertex_sum (then L b) = omega arith in
+    totals-next (entries_of L) e
+    ∙ (λ i. record {
+      bodies = (before i).bodies + 1;
+      vertices = (ap (λ (t : Totals). t.vertices + e.vertices) before ∙ vertices) i;
+      triangles = (before i).triangles + e.triangles;
+    })

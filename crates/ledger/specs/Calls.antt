@@ -1,6 +1,6 @@
 -- A list of additions, call by call: "Each addition gets the buffers as the last call left them,
 -- and nobody else writes to them" (demand 3). Definitions only.
-use Rattle.std.specs.Prelude.{List, [], ◌∷◌, Float}
+use Rattle.std.specs.Prelude.{List, [], ◌∷◌, map, Float}
 use Rattle.answers.specs.Answers.{Answer}
 use Rattle.descriptions.specs.declared.description.Description.{Description}
 use Rattle.set_table.specs.Buffers.{Buffers, buffers}
@@ -22,8 +22,7 @@ abbrev pub told : Call → Addition
 told a = taken a.description a.curve
 
 abbrev pub tell : List Call → List Addition
-tell [] = []
-tell (a ∷ rest) = told a ∷ tell rest
+tell list = map told list
 
 abbrev pub addition : Call → Buffers → After
 addition a s = added (told a) s

@@ -1,9 +1,10 @@
 -- When buffers hold a ledger: they begin with its set, which keeps to the limits of a set.
 -- Definitions only.
-use Rattle.std.specs.Prelude.{◌≡◌, List, ◌++◌, ℕ, ◌*◌, ◌≤◌, length, drop}
+use Rattle.std.specs.Prelude.{◌≡◌, List, ◌++◌, ◌*◌, ◌≤◌, length, drop}
 use Rattle.surface.specs.Limits.{most_in_all}
 use Rattle.set_table.specs.Entries.{table_words}
-use Rattle.set_table.specs.Room.{most_bodies, Lengths}
+use Rattle.set_table.specs.Room.{most_bodies}
+use Rattle.set_table.specs.declared.lengths.Lengths.{Lengths}
 use Rattle.set_table.specs.Buffers.{Buffers, lengths_of}
 use Rattle.ledger.specs.Ledger.{Ledger, body_count, vertex_sum, triangle_sum, set_table, set_vertices, set_triangles}
 use Rattle.ledger.specs.Shapes.{EachShaped}

@@ -6,7 +6,7 @@ use Rattle.laws.specs.Overwrite.{overwrite}
 use Rattle.float32.specs.Zeros.{zeros}
 use Rattle.surface.specs.Triangles.{flatten, shift}
 use Rattle.answers.specs.Answers.{Answer, refused, accepted, first_of}
-use Rattle.set_table.specs.Room.{Lengths}
+use Rattle.set_table.specs.declared.lengths.Lengths.{Lengths}
 use Rattle.set_table.specs.Entries.{all_words}
 use Rattle.set_table.specs.declared.totals.Totals.{Totals}
 use Rattle.set_table.specs.declared.entries.Entry.{Entry}

@@ -1,1 +1,2 @@
+mod Chunks
 pub mod RoundTrip

@@ -1,19 +1,13 @@
 -- The bytes of words below 2^32 are read back as these words. Assumes nothing.
-use mathlib.Core.Path.{◌≡◌, refl, ap, ◌∙◌}
-use mathlib.Core.List.{List, [], ◌∷◌}
-use Prim.Native.Nat.{ℕ, ◌+◌, ◌*◌, ◌/◌, ◌%◌, ◌^◌, ◌<◌}
-use native.Mathlib.Nat.{div-div-eq-div-mul}
-use native.Mathlib.Omega.{arith}
-use lib.ListN.{length, get_or}
-use lib.Seq.{take-length}
+use Rattle.std.proofs.Common.{◌≡◌, refl, ap, ◌∙◌, List, [], ◌∷◌, ℕ, ◌+◌, ◌*◌, ◌/◌, ◌%◌, ◌^◌, ◌<◌, length, get_or}
+use Rattle.std.proofs.Common.{take_all, le_refl, arith}
+use Rattle.std.proofs.lemmas.Nat.{from_le_bytes-to_le_bytes_4}
 use Rattle.laws.specs.Blocks.{blocks}
 use Rattle.laws.proofs.Blocks.{length-blocks, blocks-cong, get_or-blocks, elements}
 use Rattle.little_endian.specs.Words.{word_of, word_at, words_in, bytes_of, bytes_in}
 
 word_back : (w : ℕ) → w < 2 ^ 32 → word_of (w % 256) (w / 256 % 256) (w / 65536 % 256) (w / 16777216 % 256) ≡ w
-word_back w h =
-    let highest : w / 16777216 % 256 ≡ w / 16777216 = omega arith in
-    omega (arith, div-div-eq-div-mul w 256 256, div-div-eq-div-mul w 65536 256)
+word_back w h = omega (arith, from_le_bytes-to_le_bytes_4 w h)
 
 module _ (words : List ℕ) (small : (k : ℕ) → k < length words → get_or words k 0 < 2 ^ 32) where
   -- the bytes of word i
@@ -39,4 +33,4 @@ module _ (words : List ℕ) (small : (k : ℕ) → k < length words → get_or w
       ap (λ (k : ℕ). blocks k there) count
       ∙ blocks-cong n there (λ i. get_or words i 0 ∷ []) word-there
       ∙ elements words 0 n (omega arith)
-      ∙ take-length words
+      ∙ take_all n words (le_refl n)

@@ -1,6 +1,5 @@
 -- Demand 3, as one equation of all that a clear and a list of additions give. Assumes nothing.
-use mathlib.Core.Path.{◌≡◌}
-use mathlib.Core.List.{List}
+use Rattle.std.proofs.Common.{◌≡◌, List}
 use Rattle.answers.specs.Answers.{accepted}
 use Rattle.set_table.specs.Buffers.{Buffers, buffers, lengths_of}
 use Rattle.shared_set.specs.Set.{clear_answer}

@@ -1,6 +1,6 @@
 -- The buffers that build leaves are those of the calls, so their file is the ledger's. Assumes
 -- nothing.
-use mathlib.Core.Path.{sym, ap, ◌∙◌}
+use Rattle.std.proofs.Common.{sym, ap, ◌∙◌}
 use Rattle.answers.specs.Answers.{Answer}
 use Rattle.set_file.specs.File.{file_word_of}
 use Rattle.ledger.specs.Calls.{Called}

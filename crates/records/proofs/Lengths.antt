@@ -1,22 +1,50 @@
 -- The length that a head names: of the record, where its words are there, and of its words alone.
 -- Assumes nothing.
-use mathlib.Core.Path.{◌≡◌, refl, sym, ap, ◌∙◌}
-use mathlib.Core.Bool.{Bool, true, false, cond, ◌&&◌}
-use mathlib.Core.List.{List}
-use Prim.Native.Nat.{ℕ, ◌+◌, ◌*◌, ◌≤◌, ◌<◌}
-use native.Mathlib.Omega.{arith}
-use borrow.Author.Tests.{le-leb, lt-leb, leb-true}
-use lib.Dec.{leb}
-use lib.ListN.{length, take, length-take}
-use lib.Seq.{length-take-le, get_or-take, take-take}
+use Rattle.std.proofs.Common.{◌≡◌, refl, sym, ap, ◌∙◌, Bool, true, false, cond, ◌&&◌, List, zero, suc, ℕ, ◌+◌, ◌*◌, ◌≤◌, ◌<◌, arith, le-leb, leb-true, leb-false, leb, length, take, length-take, length-take-le, get_or-take, take-take, Some, None}
+use Rattle.std.proofs.lemmas.Bool.{lt-leb}
+use Rattle.std.specs.Bool.{then_some}
 use Rattle.laws.proofs.Conjunction.{both_true}
-use Rattle.records.specs.Records.{head_words, most_vertices, vertices_named, head_names, length_named}
+use Rattle.records.specs.Records.{head_words, most_vertices, vertices_named, head_names, unless_zero, length_named}
 use Rattle.records.specs.Records.{begins_with_record, record_words}
 use Rattle.records.proofs.Additions.{whole, whole-begins, record-length}
+
+-- what a length tells, as code has it
+pub unless_zero-some : {n c : ℕ} → Some c ≡ unless_zero n → (c ≡ n) × (0 < c)
+unless_zero-some {n} {c} h = by n h where
+  by : (n : ℕ) → Some c ≡ unless_zero n → (c ≡ n) × (0 < c)
+  by zero h = cc
+  by (suc n) h = let same : c ≡ suc n = cc in (same, omega arith)
+
+pub unless_zero-none : {n : ℕ} → None ≡ unless_zero n → n ≡ 0
+unless_zero-none {n} h = by n h where
+  by : (n : ℕ) → None ≡ unless_zero n → n ≡ 0
+  by zero h = refl
+  by (suc n) h = cc
+
+pub some-length : (n : ℕ) → 0 < n → Some n ≡ unless_zero n
+some-length zero h = absurd (omega arith)
+some-length (suc n) h = refl
 
 module _ (words : List ℕ) where
   abbrev whole_length : ℕ
   whole_length = head_words + 3 * vertices_named words
+
+  -- a head that is too short, and one that is not
+  pub short_head : length words ≤ 6 → None ≡ unless_zero (length_named words)
+  unfolding head_names
+  short_head h = rw (lt-leb 7 (length words) (omega arith))
+
+  pub long_head : {v : ℕ} → 7 ≤ length words → v ≡ vertices_named words
+      → then_some (leb v most_vertices) (head_words + 3 * v) ≡ unless_zero (length_named words)
+  unfolding head_names
+  long_head h is =
+      (λ i. then_some (leb (is i) most_vertices) (head_words + 3 * is i))
+      ∙ by (leb (vertices_named words) most_vertices)
+      ∙ (λ i. unless_zero (cond (sym (le-leb 7 (length words) h) i && leb (vertices_named words) most_vertices) whole_length 0))
+    where
+      by : (b : Bool) → then_some b whole_length ≡ unless_zero (cond b whole_length 0)
+      by true = some-length whole_length (omega arith)
+      by false = refl
 
   -- the two definitions, once it is known whether there is a head, and whether its record's words
   -- are there
@@ -44,6 +72,19 @@ module _ (words : List ℕ) where
         let long = is ∙ ap named_if e in
         sym (λ j. words_if (e j) (lt-leb whole_length (length words) (omega (arith, long, lacks)) j))
     by false e = sym (λ j. words_if (e j) (leb whole_length (length words)))
+
+  -- the same, as code has it
+  pub there-if : {n : ℕ} → Some n ≡ unless_zero (length_named words)
+      → then_some (leb n (length words)) n ≡ unless_zero (record_words words)
+  there-if {n} h = by (leb n (length words)) refl where
+    by : (b : Bool) → leb n (length words) ≡ b → then_some b n ≡ unless_zero (record_words words)
+    by true e =
+        let told = unless_zero-some h in
+        some-length n told.1 ∙ ap unless_zero (all_there told.0 (leb-true n (length words) e))
+    by false e = ap unless_zero (too_few (unless_zero-some h).0 (leb-false n (length words) e))
+
+  pub none_there : None ≡ unless_zero (length_named words) → None ≡ unless_zero (record_words words)
+  none_there h = ap unless_zero (all_there (sym (unless_zero-none h)) (omega arith))
 
   -- 0, or a head and at most 512 vertices
   pub named-bounds : {n : ℕ} → n ≡ length_named words → (n ≡ 0 → ⊥)

@@ -1,13 +1,9 @@
 -- How far a loop over records has come: what is done and what remains give the whole. Assumes
 -- nothing.
-use mathlib.Core.Path.{◌≡◌, refl, sym, ap, ◌∙◌}
-use mathlib.Core.Bool.{true, false}
-use mathlib.Core.List.{List, [], ◌++◌, append-nil, append_assoc, map-append}
-use Prim.Native.Nat.{ℕ, ◌+◌, ◌≤◌}
-use native.Mathlib.Nat.{zero-add}
-use native.Mathlib.Omega.{arith}
-use lib.ListN.{length, drop, length-append, length-drop, length-map}
-use lib.Seq.{drop-drop}
+use Rattle.std.proofs.Common.{◌≡◌, refl, sym, ap, ◌∙◌, true, false, List, [], ◌++◌, append-nil, append_assoc, ℕ, ◌+◌, ◌≤◌, zero-add, arith, length, drop, length-append, length-drop, Option, Some, None, Result}
+use Rattle.std.proofs.lemmas.List.{map-append}
+use Rattle.std.proofs.Math.ListN.{length-map}
+use Rattle.answers.specs.declared.refusal.Refusal.{Refusal}
 use Rattle.laws.specs.Overwrite.{overwrite}
 use Rattle.laws.proofs.Overwrite.{overwrite-none, written_behind}
 use Rattle.answers.specs.Answers.{Answer, number_in}
@@ -15,28 +11,29 @@ use Rattle.set_table.specs.Buffers.{Buffers, lengths_of}
 use Rattle.ledger.specs.Calls.{Call, Called, additions}
 use Rattle.records.specs.Records.{begins_with_record, record_words, first_addition, additions_in}
 use Rattle.records.specs.Built.{replies_in, numbers_of}
-use Rattle.records.specs.declared.reply.Reply.{Reply}
-use Rattle.records.specs.declared.reply.Reply.TheVariants.{Skipped, Answered}
 use Rattle.records.proofs.Additions.{whole, record-length, additions-next, additions-none, preceded_by}
 use Rattle.records.proofs.Additions.{additions-append}
 
--- The records before place `at` have been read and i answers written. The buffers held s₀ and
--- answers₀, and hold s and answers.
-pub record Progress (records answers₀ : List ℕ) (s₀ : Buffers) (answers : List ℕ) (s : Buffers) (at i : ℕ) : Type 0 where
+-- The records before `rest` have been read and i answers written. The buffers held s₀ and answers₀,
+-- and hold s and answers.
+pub record Progress (records answers₀ : List ℕ) (s₀ : Buffers) (answers : List ℕ) (s : Buffers) (rest : List ℕ) (i : ℕ) : Type 0 where
   -- what the calls so far answered
   pub done : List (Answer (Unit {0}))
   -- with the calls that remain they give the whole
-  pub gives : additions (additions_in records) s₀ ≡ preceded_by done (additions (additions_in (drop at records)) s)
+  pub gives : additions (additions_in records) s₀ ≡ preceded_by done (additions (additions_in rest) s)
   pub written : answers ≡ overwrite 0 (numbers_of done) answers₀
   pub counted : i ≡ length done
-  pub fewer : i ≤ at
-  pub within : at ≤ length records
+  pub fewer : i + length rest ≤ length records
   pub sized : lengths_of s ≡ lengths_of s₀
 
--- a record gets one answer at most
+-- what became of a record
+abbrev Reply : Type 0
+Reply = Option (Result (Unit {0}) Refusal)
+
+-- it gets one answer at most
 one-reply : (reply : Reply) → length (replies_in reply) ≤ 1
-one-reply Skipped = omega arith
-one-reply (Answered outcome) = omega arith
+one-reply None = omega arith
+one-reply (Some result) = omega arith
 
 -- the calls of the first record, and those of the others after them
 first-apart : (words : List ℕ) (s : Buffers) → begins_with_record words ≡ true
@@ -48,56 +45,51 @@ first-apart words s begins =
 
 module _ (records answers₀ : List ℕ) (s₀ : Buffers) where
   -- nothing is done
-  pub begun : Progress records answers₀ s₀ answers₀ s₀ 0 0
+  pub begun : Progress records answers₀ s₀ answers₀ s₀ records 0
   begun = record {
     done = [];
     gives = refl;
     written = sym (overwrite-none 0 answers₀);
     counted = refl;
     fewer = omega arith;
-    within = omega arith;
     sized = refl;
   }
 
   -- one record more
-  pub next : {answers answers' : List ℕ} {s s' : Buffers} {at i i' words : ℕ} (reply : Reply)
-      → Progress records answers₀ s₀ answers s at i
-      → begins_with_record (drop at records) ≡ true
-      → words ≡ record_words (drop at records)
-      → record { answers = replies_in reply; left = s' } ≡ additions (first_addition (drop at records)) s
+  pub next : {answers answers' : List ℕ} {s s' : Buffers} {rest : List ℕ} {i i' words : ℕ} (reply : Reply)
+      → Progress records answers₀ s₀ answers s rest i
+      → begins_with_record rest ≡ true
+      → words ≡ record_words rest
+      → record { answers = replies_in reply; left = s' } ≡ additions (first_addition rest) s
       → lengths_of s' ≡ lengths_of s
       → i' ≡ i + length (replies_in reply)
       → answers' ≡ overwrite i (numbers_of (replies_in reply)) answers
-      → Progress records answers₀ s₀ answers' s' (at + words) i'
-  next {answers} {answers'} {s} {s'} {at} {i} {i'} {words} reply p begins size calls same more put =
-      let rest = drop at records in
+      → Progress records answers₀ s₀ answers' s' (drop words rest) i'
+  next {answers} {answers'} {s} {s'} {rest} {i} {i'} {words} reply p begins size calls same more put =
       let done = p.done in
       let replies = replies_in reply in
-      let on : drop (record_words rest) rest ≡ drop (at + words) records =
-      drop-drop (record_words rest) at records ∙ ap (λ (k : ℕ). drop (at + k) records) (sym size) in
-      let others = additions (additions_in (drop (at + words) records)) s' in
+      let others = additions (additions_in (drop words rest)) s' in
       let sized : length (numbers_of done) ≡ i = length-map done number_in ∙ sym p.counted in
       let from-i = put ∙ ap (λ (k : ℕ). overwrite k (numbers_of replies) answers) (sym (zero-add i)) in
       record {
         done = done ++ replies;
         gives = p.gives
-            ∙ ap (preceded_by done) (first-apart rest s begins ∙ (λ j. preceded_by (sym calls j).answers (additions (additions_in (on j)) (sym calls j).left)))
+            ∙ ap (preceded_by done) (first-apart rest s begins ∙ (λ j. preceded_by (sym calls j).answers (additions (additions_in (drop (sym size j) rest)) (sym calls j).left)))
             ∙ (λ j. record { answers = sym (append_assoc done replies others.answers) j; left = others.left });
         written = written_behind 0 (numbers_of done) (numbers_of replies) answers₀ p.written sized from-i
             ∙ ap (λ (l : List ℕ). overwrite 0 l answers₀) (sym (map-append number_in done replies));
         counted = more ∙ ap (λ (k : ℕ). k + length replies) p.counted ∙ sym (length-append done replies);
-        fewer = omega (arith, one-reply reply, p.fewer, record-length rest begins);
-        within = omega (arith, p.within, record-length rest begins, (whole rest begins).coordinates, length-drop at records);
+        fewer = omega (arith, one-reply reply, p.fewer, record-length rest begins, (whole rest begins).coordinates, length-drop words rest);
         sized = same ∙ p.sized;
       }
 
   -- no record more
-  module _ {answers : List ℕ} {s : Buffers} {at i : ℕ} (p : Progress records answers₀ s₀ answers s at i)
-      (none : begins_with_record (drop at records) ≡ false) where
+  module _ {answers : List ℕ} {s : Buffers} {rest : List ℕ} {i : ℕ} (p : Progress records answers₀ s₀ answers s rest i)
+      (none : begins_with_record rest ≡ false) where
     all : additions (additions_in records) s₀ ≡ record { answers = p.done; left = s }
     all =
         p.gives
-        ∙ ap (λ (list : List Call). preceded_by p.done (additions list s)) (additions-none (drop at records) none)
+        ∙ ap (λ (list : List Call). preceded_by p.done (additions list s)) (additions-none rest none)
         ∙ (λ j. record { answers = append-nil p.done j; left = s })
 
     pub all_left : s ≡ (additions (additions_in records) s₀).left

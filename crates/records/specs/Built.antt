@@ -1,8 +1,9 @@
 -- What the ledger says of a whole list of records: the answers and every element of the buffers.
 -- Definitions only.
-use Rattle.std.specs.Prelude.{List, [], ◌∷◌, map, ℕ, Float}
+use Rattle.std.specs.Prelude.{List, [], ◌∷◌, map, ℕ, Float, Option, Some, None, Result}
 use Rattle.laws.specs.Overwrite.{overwrite}
-use Rattle.answers.specs.Answers.{Answer, refused, accepted, number_in, outcome_answer}
+use Rattle.answers.specs.Answers.{Answer, refused, accepted, number_in, answer_of}
+use Rattle.answers.specs.declared.refusal.Refusal.{Refusal}
 use Rattle.set_table.specs.Buffers.{Buffers, buffers, lengths_of}
 use Rattle.shared_set.specs.Set.{clear_answer}
 use Rattle.ledger.specs.Ledger.{empty, replies_to, set_table, set_vertices, set_triangles}
@@ -10,13 +11,11 @@ use Rattle.ledger.specs.Calls.{Call, tell, Called}
 use Rattle.ledger.specs.Holds.{begins_with}
 use Rattle.ledger.specs.Demand3.{ledger_of, zeroed_vertices}
 use Rattle.records.specs.Records.{additions_in}
-use Rattle.records.specs.declared.reply.Reply.{Reply}
-use Rattle.records.specs.declared.reply.Reply.TheVariants.{Skipped, Answered}
 
 -- the answers of one record: one, or none if it is skipped
-abbrev pub replies_in : Reply → List (Answer (Unit {0}))
-replies_in Skipped = []
-replies_in (Answered outcome) = outcome_answer outcome ∷ []
+abbrev pub replies_in : Option (Result (Unit {0}) Refusal) → List (Answer (Unit {0}))
+replies_in None = []
+replies_in (Some result) = answer_of result ∷ []
 
 abbrev pub called : List (Answer (Unit {0})) → List ℕ → List Float → List ℕ → Called
 called answers table vertices triangles = record { answers = answers; left = buffers table vertices triangles }

@@ -3,13 +3,12 @@
 -- coordinates" (document 01, 'The shared set'), and the additions that they ask for. Definitions
 -- only.
 use Rattle.std.specs.Prelude.{Bool, cond, not, ◌&&◌, List, [], ◌∷◌, ◌++◌, map, ℕ, zero, suc, ◌+◌, ◌*◌, eqb}
-use Rattle.std.specs.Prelude.{leb, Float, length, get_or, drop}
+use Rattle.std.specs.Prelude.{leb, Float, length, get_or, drop, Option, Some, None}
 use Rattle.std.specs.Float.{binary32}
 use Rattle.std.specs.Float.Ieee.{of_bits}
 use Rattle.laws.specs.Parts.{part}
 use Rattle.descriptions.specs.KindNumbers.{described_of}
-use Rattle.descriptions.specs.declared.kind.Described.{Described}
-use Rattle.descriptions.specs.declared.kind.Described.TheVariants.{Known, Unknown}
+use Rattle.descriptions.specs.declared.description.Description.{Description}
 use Rattle.ledger.specs.Calls.{Call}
 
 -- the words before the coordinates
@@ -39,7 +38,12 @@ begins_with_record words = head_names words && leb (head_words + 3 * vertices_na
 abbrev pub record_words : List ℕ → ℕ
 record_words words = cond (begins_with_record words) (head_words + 3 * vertices_named words) 0
 
-abbrev pub described_in : List ℕ → Described
+-- a length as code has it, where 0 is that of no record
+abbrev pub unless_zero : ℕ → Option ℕ
+unless_zero zero = None
+unless_zero (suc n) = Some (suc n)
+
+abbrev pub described_in : List ℕ → Option Description
 described_in words =
     described_of (get_or words 0 0) (get_or words 1 0) (get_or words 2 0) (not (eqb (get_or words 3 0) 0))
     (of_bits binary32 (get_or words 4 0)) (of_bits binary32 (get_or words 5 0))
@@ -48,9 +52,9 @@ abbrev pub curve_in : List ℕ → List Float
 curve_in words = map (of_bits binary32) (part head_words (3 * vertices_named words) words)
 
 -- "skips .. kinds outside 1 to 5"; "Refusal 1 and the program admit kind 6" (document 02, No. 1)
-abbrev pub addition_of : Described → List Float → List Call
-addition_of (Known d) c = record { description = d; curve = c } ∷ []
-addition_of Unknown c = []
+abbrev pub addition_of : Option Description → List Float → List Call
+addition_of (Some d) c = record { description = d; curve = c } ∷ []
+addition_of None c = []
 
 -- the addition, if there is one, of the record that the words begin with
 abbrev pub first_addition : List ℕ → List Call

@@ -1,32 +1,30 @@
-ghost use Rattle.std.specs.Prelude.{◌≡◌, ◌+◌, ◌≤◌, length};
+ghost use Rattle.std.specs.Prelude.{◌≡◌, ◌+◌, ◌<◌, length};
 ghost use Rattle.laws.specs.Overwrite.{overwrite};
 ghost use Rattle.set_table.specs.Buffers.{buffers};
-ghost use Rattle.answers.specs.Answers.{outcome_answer};
+ghost use Rattle.answers.specs.Answers.{answer_of};
 ghost use Rattle.ledger.specs.Calls.{additions};
 ghost use Rattle.records.specs.Records.{additions_in};
 ghost use Rattle.records.specs.Built.{replies_in, numbers_of, built, built_of};
 
 use crate::first::add_first;
 use crate::head::record_words;
-use crate::reply::Reply;
-use answers::Outcome;
+use answers::{Refusal, number};
 
 // Writes the number that a record got, if it got one, to place `i` of `answers`, unless that is
-// past its end. Answers how many numbers there are now.
-fn put_answer(reply: Reply, answers: &mut [u32], i: usize) -> usize
-    requires { i + 1 ≤ 18446744073709551615 }
+// past its end. Answers how many numbers there are now: a record that is skipped has none, so that
+// no iterator over the records counts them.
+fn put_answer(reply: Option<Result<(), Refusal>>, answers: &mut [u32], i: usize) -> usize
+    requires { i < usize.MAX }
     ensures count { result ≡ i + length (replies_in reply) }
     ensures answers_after { answers.new ≡ overwrite i (numbers_of (replies_in reply)) answers.old }
 {
-    match reply {
-        Reply::Skipped => i,
-        Reply::Answered(outcome) => {
-            if i < answers.len() {
-                answers[i] = outcome.number();
-            }
-            i + 1
-        }
+    let Some(answer) = reply else {
+        return i;
+    };
+    if i < answers.len() {
+        answers[i] = number(answer);
     }
+    i + 1
 }
 
 // Adds the bodies of all records, one after the other, and writes the number that each addition
@@ -45,14 +43,12 @@ fn add_all(
         let calls = additions (additions_in records.now) s in
         answers.new ≡ overwrite 0 (numbers_of calls.answers) answers.old }
 {
-    let mut at: usize = 0;
+    let mut rest = records;
     let mut i: usize = 0;
-    let mut words = record_words(records);
-    while words != 0 {
-        let reply = add_first(&records[at..], table, vertices, triangles);
+    while let Some(words) = record_words(rest) {
+        let reply = add_first(rest, table, vertices, triangles);
         i = put_answer(reply, answers, i);
-        at += words;
-        words = record_words(&records[at..]);
+        rest = &rest[words..];
     }
 }
 
@@ -66,15 +62,13 @@ pub fn build(
     table: &mut [u32],
     vertices: &mut [f32],
     triangles: &mut [u32],
-) -> Outcome
+) -> Result<(), Refusal>
     ensures { let before = buffers table.old vertices.old triangles.old in
         let after = buffers table.new vertices.new triangles.new in
-        built (outcome_answer result) answers.new after
+        built (answer_of result) answers.new after
         ≡ built_of records.now answers.old before }
 {
-    let outcome = shared_set::clear(table);
-    if let Outcome::Accepted = outcome {
-        add_all(records, answers, table, vertices, triangles);
-    }
-    outcome
+    shared_set::clear(table)?;
+    add_all(records, answers, table, vertices, triangles);
+    Ok(())
 }

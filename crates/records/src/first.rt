@@ -3,7 +3,7 @@ ghost use Rattle.std.specs.Float.{binary32};
 ghost use Rattle.std.specs.Float.Ieee.{of_bits};
 ghost use Rattle.laws.specs.Overwrite.{overwrite};
 ghost use Rattle.set_table.specs.Buffers.{buffers};
-ghost use Rattle.answers.specs.Answers.{outcome_answer};
+ghost use Rattle.answers.specs.Answers.{answer_of};
 ghost use Rattle.shared_set.specs.Additions.{taken};
 ghost use Rattle.shared_set.specs.Set.{after, added};
 ghost use Rattle.ledger.specs.Calls.{additions};
@@ -11,23 +11,21 @@ ghost use Rattle.records.specs.Records.{first_addition};
 ghost use Rattle.records.specs.Built.{replies_in, called};
 
 use crate::head::{HEAD_WORDS, MOST_VERTICES, describe, record_words};
-use crate::reply::Reply;
-use answers::Outcome;
-use descriptions::{Described, Description};
+use answers::Refusal;
+use descriptions::Description;
 use float32::from_word;
 
 // The coordinates of the most vertices that a record may have.
 const SCRATCH_FLOATS: usize = 3 * MOST_VERTICES;
 
-// Writes the floats with the bit patterns `words`, whatever they are, to the front of `out`.
+// Writes the floats with the bit patterns `words`, whatever they are, to the front of `out`: by
+// their index, since a proof knows nothing of elements that are written through a `zip`.
 fn fill_floats(words: &[u32], out: &mut [f32])
     requires { length words.now ≤ length out.old }
     ensures { out.new ≡ overwrite 0 (map (of_bits binary32) words.now) out.old }
 {
-    let mut i: usize = 0;
-    while i < words.len() {
-        out[i] = from_word(words[i]);
-        i += 1;
+    for (i, word) in words.iter().enumerate() {
+        out[i] = from_word(*word);
     }
 }
 
@@ -40,9 +38,9 @@ fn add_body(
     table: &mut [u32],
     vertices: &mut [f32],
     triangles: &mut [u32],
-) -> Outcome
+) -> Result<(), Refusal>
     requires { length coordinates.now ≤ length scratch.old }
-    ensures { after (outcome_answer result) table.new vertices.new triangles.new
+    ensures { after (answer_of result) table.new vertices.new triangles.new
         ≡ added (taken description (map (of_bits binary32) coordinates.now))
         (buffers table.old vertices.old triangles.old) }
 {
@@ -52,34 +50,27 @@ fn add_body(
 }
 
 // Adds the body of the record that `words` begins with. Skips words that begin with no record, and
-// a record whose kind is unknown.
+// a record whose kind is unknown: then there is no answer.
 pub fn add_first(
     words: &[u32],
     table: &mut [u32],
     vertices: &mut [f32],
     triangles: &mut [u32],
-) -> Reply
+) -> Option<Result<(), Refusal>>
     ensures { called (replies_in result) table.new vertices.new triangles.new
         ≡ additions (first_addition words.now)
         (buffers table.old vertices.old triangles.old) }
 {
-    let end = record_words(words);
-    if end == 0 {
-        return Reply::Skipped;
-    }
-    match describe(words) {
-        Described::Unknown => Reply::Skipped,
-        Described::Known(description) => {
-            let mut scratch = [0f32; SCRATCH_FLOATS];
-            let start = HEAD_WORDS;
-            Reply::Answered(add_body(
-                description,
-                &words[start..end],
-                &mut scratch,
-                table,
-                vertices,
-                triangles,
-            ))
-        }
-    }
+    let end = record_words(words)?;
+    let description = describe(words)?;
+    let mut scratch = [0f32; SCRATCH_FLOATS];
+    let coordinates = &words[HEAD_WORDS..end];
+    Some(add_body(
+        description,
+        coordinates,
+        &mut scratch,
+        table,
+        vertices,
+        triangles,
+    ))
 }

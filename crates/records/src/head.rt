@@ -1,53 +1,49 @@
 ghost use Rattle.std.specs.Prelude.{◌≡◌, ◌≤◌, length};
-ghost use Rattle.records.specs.Records.{length_named, record_words, described_in};
+ghost use Rattle.records.specs.Records.{unless_zero, length_named, record_words, described_in};
 
-use descriptions::{Described, of_kind};
+use descriptions::{Description, Sizes, of_kind};
 use float32::from_word;
 
 // How many words a record has before its coordinates.
 pub const HEAD_WORDS: usize = 7;
 
+// The word of a record that says how many vertices its curve has.
+const VERTICES_AT: usize = 6;
+
 // The most vertices that a record's curve may have.
 pub(crate) const MOST_VERTICES: usize = 512;
 
-// The length of the record that begins with `head`; 0 if the head is too short or names too many
+// The length of the record that begins with `head`, unless the head is too short or names too many
 // vertices.
-pub fn record_length(head: &[u32]) -> usize
-    ensures { result ≡ length_named head.now }
+pub fn record_length(head: &[u32]) -> Option<usize>
+    ensures { result ≡ unless_zero (length_named head.now) }
 {
-    if head.len() < HEAD_WORDS {
-        return 0;
-    }
-    let vertices = head[6] as usize;
-    if vertices > MOST_VERTICES {
-        return 0;
-    }
-    HEAD_WORDS + 3 * vertices
+    let vertices = *head.get(VERTICES_AT)? as usize;
+    (vertices <= MOST_VERTICES).then_some(HEAD_WORDS + 3 * vertices)
 }
 
-// The length of the record that `words` begins with; 0 if it is cut short or names too many
+// The length of the record that `words` begins with, unless it is cut short or names too many
 // vertices.
-pub fn record_words(words: &[u32]) -> usize
-    ensures { result ≡ record_words words.now }
+pub fn record_words(words: &[u32]) -> Option<usize>
+    ensures { result ≡ unless_zero (record_words words.now) }
 {
-    let count = record_length(words);
-    if count > words.len() {
-        return 0;
-    }
-    count
+    let count = record_length(words)?;
+    (count <= words.len()).then_some(count)
 }
 
-// What the head of a record describes.
-pub(crate) fn describe(words: &[u32]) -> Described
+// What the head of a record describes, if its kind is known.
+pub(crate) fn describe(words: &[u32]) -> Option<Description>
     requires { 7 ≤ length words.now }
     ensures { result ≡ described_in words.now }
 {
     of_kind(
         words[0],
-        words[1],
-        words[2],
-        words[3] != 0,
-        from_word(words[4]),
-        from_word(words[5]),
+        Sizes {
+            divisions: words[1],
+            steps: words[2],
+            centred: words[3] != 0,
+            size: from_word(words[4]),
+            length: from_word(words[5]),
+        },
     )
 }

@@ -1,22 +1,20 @@
 -- A word of a file that is made of several lists: the list that has it, and its place there.
 -- Assumes nothing.
-use mathlib.Core.Path.{◌≡◌, refl, sym, ap, ◌∙◌}
-use mathlib.Core.List.{List, [], ◌∷◌, ◌++◌, map}
-use Prim.Native.Nat.{ℕ, suc, ◌+◌, ◌*◌, ◌-◌, ◌≤◌, ◌<◌}
-use native.Mathlib.Nat.{zero-add, suc-add}
-use native.Mathlib.Omega.{arith}
-use borrow.Author.Tests.{le-leb, lt-leb}
-use lib.Dec.{leb-suc-suc}
-use lib.Ieee.{Float, nan, binary32, to_bits}
-use lib.ListN.{length, get_or, length-append, length-map, get_or-append}
-use Rattle.laws.proofs.Places.{get_or-map}
-use Rattle.answers.specs.Answers.{Answer, Test, refused, accepted}
-use Rattle.answers.proofs.FirstOf.{accepted-by, passed-by, refused-by}
+use Rattle.std.proofs.Common.{Option, Some, None, ok_or, option_map, option_copied, slice_get, slice_range, zero, ◌≡◌, refl, sym, ap, ◌∙◌, List, [], ◌∷◌, ◌++◌, map, ℕ, suc, ◌+◌, ◌*◌, ◌-◌, ◌≤◌, ◌<◌, zero-add, suc-add, arith, le-leb, Float, to_bits, length, get_or, length-append}
+use Rattle.std.proofs.lemmas.Bool.{lt-leb}
+use Rattle.std.proofs.Math.Dec.{leb-suc-suc}
+use Rattle.std.specs.Float.{binary32}
+use Rattle.std.proofs.Math.ListN.{length-map, get_or-append}
+use Rattle.std.proofs.lemmas.Option.{slice_get-map, slice_get_within, slice_get_read, slice_get_past, get_or_from_slice_get}
+use Rattle.std.specs.Slice.{IsItemAt}
+use denote.Bor.{Bor}
+use Rattle.answers.specs.Answers.{Answer, Test, refused, accepted, answer_of}
+use Rattle.answers.specs.declared.refusal.Refusal.TheVariants.{PastEnd}
+use Rattle.answers.proofs.FirstOf.{accepted-by, passed-by}
 use Rattle.laws.specs.Parts.{part}
-use Rattle.laws.proofs.Parts.{length_part, get_or-part}
-use Rattle.set_table.specs.Entries.{entry_words, table_words, all_words}
+use Rattle.set_table.specs.Entries.{table_words, entries_in, all_words, entry_totals}
 use Rattle.set_table.specs.Table.{bodies_in, totals_in, table_tests, reading_of}
-use Rattle.set_table.proofs.Words.{table-words, table-totals}
+use Rattle.set_table.proofs.Words.{table-words, count-entries}
 use Rattle.set_table.specs.Buffers.{Buffers}
 use Rattle.set_table.specs.declared.totals.Totals.{Totals}
 use Rattle.set_file.specs.File.{file_head, file_body, entries_held, floats_held, indices_held, file_in}
@@ -47,87 +45,95 @@ word-behind : (xs ys : List ℕ) (place : ℕ) {n : ℕ} → length xs ≡ n →
     → word_in ys (place - n) ≡ word_in (xs ++ ys) place
 word-behind xs ys place {n} e h = word-add xs ys (place - n) ∙ ap (word_in (xs ++ ys)) (omega arith)
 
--- the entries' words, and the vertices'
-abbrev entry_words_in : Totals → Buffers → List ℕ
-entry_words_in t s = all_words (entries_held t s)
+-- what `get` answers
+pub got : {X : Type 0} (xs : List X) (k : ℕ) (r : Option (Bor X)) → IsItemAt xs k r → option_copied r ≡ slice_get xs k
+got xs k (Some x) h = sym (slice_get_read xs (length xs) k x.now refl h.3.0 h.1)
+got xs k None h = sym (slice_get_past xs k h.3)
 
-abbrev float_words : Totals → Buffers → List ℕ
-float_words t s = map (to_bits binary32) (floats_held t s)
+-- past the end of a list is where `get` finds nothing
+past : {A : Type 0} (xs : List A) (place : ℕ) → None ≡ slice_get xs place → length xs ≤ place
+past [] place h = omega arith
+past (x ∷ xs) zero h = cc
+past (x ∷ xs) (suc k) h = omega (arith, past xs k h)
 
--- an element of the first `count` of a list
-front : {A : Type 0} (count : ℕ) (l : List A) (k : ℕ) (d : A) → k < count → get_or (part 0 count l) k d ≡ get_or l k d
-front count l k d h = get_or-part 0 count l k d h ∙ ap (λ (i : ℕ). get_or l i d) (zero-add k)
+-- a word that `get` finds in the first of two lists, and the words behind that list where it finds
+-- none
+found : (xs ys : List ℕ) (place : ℕ) {w : ℕ} → Some w ≡ slice_get xs place → accepted w ≡ word_in (xs ++ ys) place
+found xs ys place {w} h =
+    ap accepted (sym (get_or_from_slice_get xs place w 0 (sym h)))
+    ∙ word-front xs ys place (slice_get_within xs place w (sym h))
+
+not-found : (xs ys : List ℕ) (place : ℕ) → None ≡ slice_get xs place
+    → word_in ys (place - length xs) ≡ word_in (xs ++ ys) place
+not-found xs ys place h = word-behind xs ys place refl (past xs place h)
+
+-- the word of a list that `get` finds, or none
+only : (xs : List ℕ) (place : ℕ) (word : Option ℕ) → word ≡ slice_get xs place
+    → answer_of (ok_or word PastEnd) ≡ word_in xs place
+only xs place (Some w) h =
+    ap accepted (sym (get_or_from_slice_get xs place w 0 (sym h))) ∙ word-here xs place (slice_get_within xs place w (sym h))
+only xs place None h = word-past xs place (past xs place h)
+
+-- the buffers hold a set of these totals
+pub record Held (t : Totals) (s : Buffers) : Type 0 where
+  pub table : table_words t.bodies ≤ length s.table
+  pub vertices : 3 * t.vertices ≤ length s.vertices
+  pub triangles : 3 * t.triangles ≤ length s.triangles
 
 -- the file after its head
-abbrev body_in : Totals → Buffers → List ℕ
+abbrev pub body_in : Totals → Buffers → List ℕ
 body_in t s = file_body (entries_held t s) (floats_held t s) (indices_held t s)
 
--- where a place there is among the vertices' words, and among the triangles'
-abbrev among_floats : Totals → ℕ → ℕ
-among_floats t place = place - entry_words * t.bodies
-
-abbrev among_triangles : Totals → ℕ → ℕ
-among_triangles t place = among_floats t place - 3 * t.vertices
-
--- the buffers are long enough for a set of these totals
-abbrev Held : Totals → Buffers → Type 0
-Held t s =
-    (table_words t.bodies ≤ length s.table) × ((3 * t.vertices ≤ length s.vertices) × (3 * t.triangles ≤ length s.triangles))
-
 -- the word after the head: an entry's, a vertex's, a triangle's, or none
-module _ (t : Totals) (s : Buffers) (held : Held t s) (place : ℕ) where
-  entries-there : entry_words_in t s ≡ part 1 (entry_words * t.bodies) s.table
-  entries-there = table-words s.table t.bodies held.0
+module _ (t : Totals) (s : Buffers) (held : Held t s) (place : ℕ) {end : ℕ} (ends : end ≡ table_words t.bodies) where
+  -- the words of the entries, and their part of the table, up to `end`
+  abbrev words : List ℕ
+  words = all_words (entries_held t s)
 
-  entries-length : length (entry_words_in t s) ≡ entry_words * t.bodies
-  entries-length = ap length entries-there ∙ length_part 1 (entry_words * t.bodies) s.table held.0
+  abbrev entries : List ℕ
+  entries = slice_range s.table 1 end
 
-  vertices-length : length (floats_held t s) ≡ 3 * t.vertices
-  vertices-length = length_part 0 (3 * t.vertices) s.vertices (omega (arith, held.1.0))
+  abbrev floats : List ℕ
+  floats = map (to_bits binary32) (floats_held t s)
 
-  floats-length : length (float_words t s) ≡ 3 * t.vertices
-  floats-length = length-map (floats_held t s) (to_bits binary32) ∙ vertices-length
+  same : words ≡ entries
+  same =
+      table-words s.table t.bodies held.table
+      ∙ ap (λ (n : ℕ). part 1 n s.table) (omega arith)
 
-  triangles-length : length (indices_held t s) ≡ 3 * t.triangles
-  triangles-length = length_part 0 (3 * t.triangles) s.triangles (omega (arith, held.1.1))
-
-  pub entry-word : place < entry_words * t.bodies
-      → accepted (get_or s.table (1 + place) 0) ≡ word_in (body_in t s) place
+  pub entry-word : {w : ℕ} → Some w ≡ slice_get entries place → accepted w ≡ word_in (body_in t s) place
   entry-word h =
-      ap accepted (sym (get_or-part 1 (entry_words * t.bodies) s.table place 0 h) ∙ ap (λ (l : List ℕ). get_or l place 0) (sym entries-there))
-      ∙ word-front (entry_words_in t s) (float_words t s ++ indices_held t s) place (omega (arith, entries-length))
+      found entries (floats ++ indices_held t s) place h
+      ∙ ap (λ (l : List ℕ). word_in (l ++ (floats ++ indices_held t s)) place) (sym same)
 
-  module _ (past-entries : entry_words * t.bodies ≤ place) where
-    behind-entries : word_in (float_words t s ++ indices_held t s) (among_floats t place) ≡ word_in (body_in t s) place
+  module _ (none : None ≡ slice_get entries place) where
+    abbrev second : ℕ
+    second = place - length entries
+
+    behind-entries : word_in (floats ++ indices_held t s) second ≡ word_in (body_in t s) place
     behind-entries =
-        word-behind (entry_words_in t s) (float_words t s ++ indices_held t s) place entries-length past-entries
+        not-found entries (floats ++ indices_held t s) place none
+        ∙ ap (λ (l : List ℕ). word_in (l ++ (floats ++ indices_held t s)) place) (sym same)
 
-    pub vertex-word : among_floats t place < 3 * t.vertices
-        → accepted (to_bits binary32 (get_or s.vertices (among_floats t place) nan)) ≡ word_in (body_in t s) place
+    pub vertex-word : {x : Float} → Some x ≡ slice_get (floats_held t s) second
+        → accepted (to_bits binary32 x) ≡ word_in (body_in t s) place
     vertex-word h =
-        let k = among_floats t place in
-        ap (λ (x : Float). accepted (to_bits binary32 x)) (sym (front (3 * t.vertices) s.vertices k nan h))
-        ∙ ap accepted (get_or-map (to_bits binary32) (floats_held t s) k nan 0 (omega (arith, vertices-length)))
-        ∙ word-front (float_words t s) (indices_held t s) k (omega (arith, floats-length))
+        found floats (indices_held t s) second
+        (ap (option_map (to_bits binary32)) h ∙ sym (slice_get-map (to_bits binary32) (floats_held t s) second))
         ∙ behind-entries
 
-    module _ (past-vertices : 3 * t.vertices ≤ among_floats t place) where
-      behind-floats : word_in (indices_held t s) (among_triangles t place) ≡ word_in (body_in t s) place
-      behind-floats =
-          word-behind (float_words t s) (indices_held t s) (among_floats t place) floats-length past-vertices
+    module _ (none-either : None ≡ slice_get (floats_held t s) second) where
+      abbrev third : ℕ
+      third = second - length (floats_held t s)
+
+      pub triangle-word : {word : Option ℕ} → word ≡ slice_get (indices_held t s) third
+          → answer_of (ok_or word PastEnd) ≡ word_in (body_in t s) place
+      triangle-word {word} h =
+          only (indices_held t s) third word h
+          ∙ ap (λ (n : ℕ). word_in (indices_held t s) (second - n)) (sym (length-map (floats_held t s) (to_bits binary32)))
+          ∙ not-found floats (indices_held t s) second
+          (ap (option_map (to_bits binary32)) none-either ∙ sym (slice_get-map (to_bits binary32) (floats_held t s) second))
           ∙ behind-entries
-
-      pub triangle-word : among_triangles t place < 3 * t.triangles
-          → accepted (get_or s.triangles (among_triangles t place) 0) ≡ word_in (body_in t s) place
-      triangle-word h =
-          let k = among_triangles t place in
-          ap accepted (sym (front (3 * t.triangles) s.triangles k 0 h))
-          ∙ word-here (indices_held t s) k (omega (arith, triangles-length))
-          ∙ behind-floats
-
-      pub no_word : 3 * t.triangles ≤ among_triangles t place → refused 5 ≡ word_in (body_in t s) place
-      no_word h =
-          word-past (indices_held t s) (among_triangles t place) (omega (arith, triangles-length)) ∙ behind-floats
 
 -- a table that is read as t leaves the answer to the file, and a damaged one has no file
 module _ (s : Buffers) (place : ℕ) where
@@ -140,20 +146,11 @@ module _ (s : Buffers) (place : ℕ) where
   abbrev file : List ℕ
   file = file_in (totals_in s.table) s
 
-  module _ {t : Totals} (h : accepted t ≡ reading) where
-    -- its head has the totals of its entries
-    word_sound : word_in (file_head t ++ body_in t s) place ≡ file_word_of s place
-    word_sound =
-        let told = accepted-by read_tests (totals_in s.table) h in
-        ap (λ (t : Totals). word_in (file_head t ++ body_in t s) place) told.0
-        ∙ ap (λ (t : Totals). word_in (file_head t ++ body_in (totals_in s.table) s) place) (sym (table-totals s.table (bodies_in s.table)))
-        ∙ passed-by read_tests (end_tests file place) (get_or file place 0) told.1
-
-    pub head-word : {w : ℕ} → place < 4 → w ≡ get_or (file_head t) place 0 → accepted w ≡ file_word_of s place
-    head-word early word = ap accepted word ∙ word-front (file_head t) (body_in t s) place early ∙ word_sound
-
-    pub later-word : {w : Answer ℕ} → 4 ≤ place → w ≡ word_in (body_in t s) (place - 4) → w ≡ file_word_of s place
-    later-word late word = word ∙ word-behind (file_head t) (body_in t s) place refl late ∙ word_sound
-
-  pub word-damaged : refused 1 ≡ reading → refused 1 ≡ file_word_of s place
-  word-damaged h = refused-by read_tests (end_tests file place) (totals_in s.table) (get_or file place 0) h
+  -- the head has the totals of the entries
+  pub word-sound : {t : Totals} → accepted t ≡ reading → word_in (file_head t ++ body_in t s) place ≡ file_word_of s place
+  word-sound h =
+      let told = accepted-by read_tests (totals_in s.table) h in
+      let count = count-entries s.table (bodies_in s.table) in
+      ap (λ (t : Totals). word_in (file_head t ++ body_in t s) place) told.0
+      ∙ ap (λ (B : ℕ). word_in (file_head (entry_totals (entries_in s.table B)) ++ body_in (totals_in s.table) s) place) (sym count)
+      ∙ passed-by read_tests (end_tests file place) (get_or file place 0) told.1

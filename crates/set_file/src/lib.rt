@@ -2,7 +2,6 @@
 #![tactic(auto)]
 
 mod file;
-mod word;
+mod sound_set;
 
 pub use file::file_word;
-pub use word::FileWord;

@@ -1,15 +1,13 @@
 -- What 2, 3 and 4 let pass has room for its entry, its vertices and its triangles. Assumes
 -- nothing.
-use mathlib.Core.Path.{◌≡◌}
-use mathlib.Core.Bool.{true, not}
-use Prim.Native.Nat.{ℕ, ◌+◌, ◌*◌, ◌^◌, ◌≤◌, ◌<◌}
-use native.Mathlib.Omega.{arith}
-use borrow.Author.Tests.{leb-true, eqb-false, not-true}
-use lib.Dec.{eqb, leb}
+use Rattle.std.proofs.Common.{◌≡◌, true, not, ℕ, ◌+◌, ◌*◌, ◌≤◌, ◌<◌, arith, leb-true, eqb, leb}
+use Rattle.std.proofs.lemmas.Bool.{eqb-false, not-true}
 use Rattle.laws.proofs.Conjunction.{both_true}
 use Rattle.set_table.specs.Entries.{table_words}
-use Rattle.set_table.specs.Room.{Lengths, Fits, most_bodies, entry_permitted}
+use Rattle.set_table.specs.Room.{Fits, most_bodies, entry_permitted}
+use Rattle.set_table.specs.declared.lengths.Lengths.{Lengths}
 use Rattle.set_table.specs.declared.totals.Totals.{Totals}
+use Rattle.surface.specs.Limits.{most_in_all}
 use Rattle.surface.proofs.Totals.{fits-bounds}
 
 entry-permitted : (B lent : ℕ) → B ≤ most_bodies → entry_permitted B lent ≡ true
@@ -23,8 +21,8 @@ entry-permitted B lent most h =
 -- v and f: how many vertices and triangles are added to those of the set
 pub record Fitting (lent : Lengths) (t : Totals) (v f : ℕ) : Type 0 where
   pub entry : (t.bodies < most_bodies) × (table_words (t.bodies + 1) ≤ lent.table)
-  pub vertices : (t.vertices + v ≤ 2 ^ 28) × (3 * (t.vertices + v) ≤ lent.vertices)
-  pub triangles : (t.triangles + f ≤ 2 ^ 28) × (3 * (t.triangles + f) ≤ lent.triangles)
+  pub vertices : (t.vertices + v ≤ most_in_all) × (3 * (t.vertices + v) ≤ lent.vertices)
+  pub triangles : (t.triangles + f ≤ most_in_all) × (3 * (t.triangles + f) ≤ lent.triangles)
 
 pub fitting : (lent : Lengths) (t : Totals) (v f : ℕ) → Fits lent t v f → Fitting lent t v f
 fitting lent t v f h = record {

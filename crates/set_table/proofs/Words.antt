@@ -1,38 +1,41 @@
 -- The words of a table's entries, read as entries and written again, are those of the table; and
 -- what a list of entries adds up to. Assumes nothing.
-use mathlib.Core.Path.{◌≡◌, refl, sym, ap, ◌∙◌}
-use mathlib.Core.List.{List, [], ◌∷◌, ◌++◌, append-nil, append_assoc}
-use Prim.Native.Nat.{ℕ, zero, suc, ◌+◌, ◌*◌, ◌≤◌}
-use native.Mathlib.Omega.{arith}
-use lib.ListN.{length, length-append}
-use lib.Seq.{take_all}
+use Rattle.std.proofs.Common.{◌≡◌, refl, sym, ap, ◌∙◌, List, [], ◌∷◌, ◌++◌, append-nil, ℕ, zero, suc, ◌+◌, ◌*◌, ◌≤◌, arith, length, length-append, take_all}
+use Rattle.std.proofs.lemmas.Grind.{flat_map-append}
+use Rattle.std.proofs.lemmas.List.Sums.{fold_push}
 use Rattle.laws.specs.Parts.{part}
 use Rattle.laws.proofs.Parts.{length_part, part-more}
-use Rattle.laws.proofs.Blocks.{elements}
+use Rattle.laws.proofs.Blocks.{length-blocks, elements}
+use Rattle.descriptions.proofs.KindNumbers.{kind-known}
 use Rattle.set_table.specs.Entries.{entry_words, words_of, table_words, entry_in, entries_in, all_words}
-use Rattle.set_table.specs.Entries.{vertex_total, triangle_total, entry_totals}
-use Rattle.set_table.specs.Table.{vertices_before, triangles_before}
+use Rattle.set_table.specs.Entries.{entry_totals}
 use Rattle.set_table.specs.declared.entries.Entry.{Entry}
 use Rattle.set_table.specs.declared.totals.Totals.{Totals}
 
-pub all-words-append : (es fs : List Entry) → all_words (es ++ fs) ≡ all_words es ++ all_words fs
-all-words-append [] fs = refl
-all-words-append (e ∷ es) fs =
-    ap (λ (l : List ℕ). words_of e ++ l) (all-words-append es fs)
-    ∙ sym (append_assoc (words_of e) (all_words es) (all_words fs))
+-- totals and one entry more
+abbrev pub with_one : Totals → Entry → Totals
+with_one t e = record {
+  bodies = t.bodies + 1;
+  vertices = t.vertices + e.vertices;
+  triangles = t.triangles + e.triangles;
+}
 
--- one entry more
+-- one entry more in a list
 pub all-words-next : (es : List Entry) (e : Entry) → all_words (es ++ (e ∷ [])) ≡ all_words es ++ words_of e
-all-words-next es e = all-words-append es (e ∷ []) ∙ ap (λ (l : List ℕ). all_words es ++ l) (append-nil (words_of e))
+all-words-next es e =
+    flat_map-append words_of es (e ∷ []) ∙ ap (λ (l : List ℕ). all_words es ++ l) (append-nil (words_of e))
 
-pub vertex-total-next : (es : List Entry) (e : Entry) → vertex_total (es ++ (e ∷ [])) ≡ vertex_total es + e.vertices
-vertex-total-next [] e = omega arith
-vertex-total-next (x ∷ es) e = omega (arith, vertex-total-next es e)
+pub totals-next : (es : List Entry) (e : Entry) → entry_totals (es ++ (e ∷ [])) ≡ with_one (entry_totals es) e
+totals-next es e =
+    λ i. record {
+      bodies = length-append es (e ∷ []) i;
+      vertices = fold_push (λ (n : ℕ) (e : Entry). n + e.vertices) 0 es e i;
+      triangles = fold_push (λ (n : ℕ) (e : Entry). n + e.triangles) 0 es e i;
+    }
 
-pub triangle-total-next : (es : List Entry) (e : Entry)
-    → triangle_total (es ++ (e ∷ [])) ≡ triangle_total es + e.triangles
-triangle-total-next [] e = omega arith
-triangle-total-next (x ∷ es) e = omega (arith, triangle-total-next es e)
+-- as many entries as are asked for
+pub count-entries : (T : List ℕ) (B : ℕ) → length (entries_in T B) ≡ B
+count-entries T B = omega (arith, length-blocks 1 B (λ (j : ℕ). entry_in T j ∷ []) (λ k h. refl))
 
 -- the entry that a table has at a place, as words again
 entry-words : (T : List ℕ) (j : ℕ) → table_words (j + 1) ≤ length T
@@ -54,16 +57,5 @@ table-words T (suc B) h =
     ∙ sym (part-more 1 (entry_words * B) entry_words T)
     ∙ ap (λ (k : ℕ). part 1 k T) (sym size)
 
--- what the first B entries of a table add up to
-pub table-totals : (T : List ℕ) (B : ℕ) → entry_totals (entries_in T B)
-    ≡ record { bodies = B; vertices = vertices_before (entry_in T) B; triangles = triangles_before (entry_in T) B }
-table-totals T zero = refl
-table-totals T (suc B) =
-    let before = table-totals T B in
-    let es = entries_in T B in
-    let e = entry_in T B in
-    let count : length (es ++ (e ∷ [])) ≡ suc B =
-    omega (arith, length-append es (e ∷ []), ap (λ (t : Totals). t.bodies) before) in
-    let vertices = vertex-total-next es e ∙ ap (λ (t : Totals). t.vertices + e.vertices) before in
-    let triangles = triangle-total-next es e ∙ ap (λ (t : Totals). t.triangles + e.triangles) before in
-    λ i. record { bodies = count i; vertices = vertices i; triangles = triangles i }
+-- what the search uses where an entry's kind is tested
+pub ruleset known_kinds = (kind-known)

@@ -1,7 +1,8 @@
 -- "The table is u32 words .. Vertices are three f32 each, triangles three u32." (document 01, 'The
 -- shared set'). Definitions only.
 use Rattle.std.specs.Prelude.{List, ℕ, Float, length}
-use Rattle.set_table.specs.Room.{Lengths, lengths}
+use Rattle.set_table.specs.Room.{lengths}
+use Rattle.set_table.specs.declared.lengths.Lengths.{Lengths}
 
 -- the three buffers that are lent
 pub record Buffers : Type 0 where

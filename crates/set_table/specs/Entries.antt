@@ -1,7 +1,7 @@
 -- "six words a body: kind .., n .., first vertex, vertex count, first triangle, triangle count"
 -- (document 01, 'The shared set'): an entry as a value, its words, and where they stand. Nothing
 -- else says how many words an entry has, or which. Definitions only.
-use Rattle.std.specs.Prelude.{List, [], ◌∷◌, ◌++◌, ℕ, ◌+◌, ◌*◌, length, get_or}
+use Rattle.std.specs.Prelude.{List, [], ◌∷◌, ℕ, ◌+◌, ◌*◌, length, get_or, flat_map, sum_by}
 use Rattle.laws.specs.Parts.{part}
 use Rattle.laws.specs.Blocks.{blocks}
 use Rattle.set_table.specs.declared.entries.Entry.{Entry}
@@ -38,17 +38,12 @@ entries_in T B = blocks B (λ j. entry_in T j ∷ [])
 
 -- the words of a list of entries, one after the other
 abbrev pub all_words : List Entry → List ℕ
-all_words [] = []
-all_words (e ∷ es) = words_of e ++ all_words es
+all_words es = flat_map words_of es
 
--- the vertices and the triangles of a list of entries, and its totals
-abbrev pub vertex_total : List Entry → ℕ
-vertex_total [] = 0
-vertex_total (e ∷ es) = e.vertices + vertex_total es
-
-abbrev pub triangle_total : List Entry → ℕ
-triangle_total [] = 0
-triangle_total (e ∷ es) = e.triangles + triangle_total es
-
+-- what a list of entries adds up to: how many there are, their vertices and their triangles
 abbrev pub entry_totals : List Entry → Totals
-entry_totals es = record { bodies = length es; vertices = vertex_total es; triangles = triangle_total es }
+entry_totals es = record {
+  bodies = length es;
+  vertices = sum_by (λ (e : Entry). e.vertices) es;
+  triangles = sum_by (λ (e : Entry). e.triangles) es;
+}

@@ -1,5 +1,4 @@
 pub mod Entries
 pub mod Room
 pub mod Buffers
-pub mod Answers
 pub mod Table

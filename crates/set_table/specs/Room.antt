@@ -5,17 +5,12 @@ use Rattle.std.specs.Prelude.{Bool, not, ◌&&◌, List, [], ◌∷◌, ℕ, ◌
 use Rattle.surface.specs.Limits.{fits}
 use Rattle.answers.specs.Answers.{Test, AllPermitted, test}
 use Rattle.set_table.specs.Entries.{table_words}
+use Rattle.set_table.specs.declared.lengths.Lengths.{Lengths}
 use Rattle.set_table.specs.declared.totals.Totals.{Totals}
 
 -- "B above 64" (1), "B is 64" (2): the most bodies that a set may have
 abbrev pub most_bodies : ℕ
 most_bodies = 64
-
--- how many elements the three buffers have
-pub record Lengths : Type 0 where
-  pub table : ℕ
-  pub vertices : ℕ
-  pub triangles : ℕ
 
 abbrev pub lengths : ℕ → ℕ → ℕ → Lengths
 lengths table vertices triangles = record { table = table; vertices = vertices; triangles = triangles }

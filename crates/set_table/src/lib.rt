@@ -4,10 +4,12 @@
 
 mod entries;
 mod fit;
+mod lengths;
 mod table;
 mod totals;
 
-pub use entries::{ENTRY_WORDS, Entry, write_entry};
+pub use entries::{ENTRY_WORDS, Entry, table_words, write_entry};
 pub use fit::check_fit;
+pub use lengths::Lengths;
 pub use table::read;
-pub use totals::{Reading, Totals};
+pub use totals::Totals;

@@ -1,15 +1,8 @@
 // What the entries of a table add up to: how many bodies there are, and how many vertices and
 // triangles they have together.
-#[derive(Clone, Copy)]
+#[derive(Clone, Copy, Debug, Default, PartialEq, Eq)]
 pub struct Totals {
     pub bodies: u32,
     pub vertices: usize,
     pub triangles: usize,
-}
-
-// What the reading of a table finds.
-#[derive(Clone, Copy)]
-pub enum Reading {
-    Damaged,
-    Sound(Totals),
 }

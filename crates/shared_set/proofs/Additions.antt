@@ -1,20 +1,15 @@
 -- What an addition to a set answers, by what its parts answer, and what a refusal leaves. Assumes
 -- nothing.
-use mathlib.Core.Path.{◌≡◌, refl, sym, ap, ◌∙◌}
-use mathlib.Core.Bool.{Bool, true, false, cond}
-use mathlib.Core.List.{List, ◌++◌, append_assoc}
-use Prim.Native.Nat.{ℕ}
-use lib.Dec.{eqb}
-use lib.Ieee.{Float}
+use Rattle.std.proofs.Common.{◌≡◌, refl, sym, ap, ◌∙◌, false, cond, List, ◌++◌, append_assoc, ℕ, eqb, Float}
 use Rattle.kinds.specs.declared.topology.Topology.{Topology}
 use Rattle.curve.specs.Segments.{vertices_in}
 use Rattle.answers.specs.Answers.{Answer, Test, AllPermitted, refused, accepted, first_of, not_finite}
 use Rattle.answers.proofs.FirstOf.{accepted-by, passed-by, passed-within, refused-by, other-than}
 use Rattle.descriptions.specs.Descriptions.{topology_of}
-use Rattle.descriptions.specs.Refusals.{ShapePermitted, segment_tests, fold_tests, curve_folds_permitted}
+use Rattle.descriptions.specs.Refusals.{ShapePermitted, segment_tests, fold_tests}
 use Rattle.descriptions.specs.declared.description.Description.{Description}
 use Rattle.descriptions.proofs.Shapes.{segments-shape}
-use Rattle.set_table.specs.Room.{Lengths}
+use Rattle.set_table.specs.declared.lengths.Lengths.{Lengths}
 use Rattle.set_table.specs.Buffers.{Buffers}
 use Rattle.set_table.specs.declared.totals.Totals.{Totals}
 use Rattle.shared_set.specs.Bodies.{Body}
@@ -29,8 +24,8 @@ untouched {k} t b s other h =
     (λ j. after (refused k) s.table (cond (sym other j) (with_zeros t b s.vertices) s.vertices) s.triangles)
     ∙ ap (after_answer t b s) h
 
-abbrev pub answer_of : List Test → Answer (Unit {0})
-answer_of tests = first_of tests tt
+abbrev pub answer_by : List Test → Answer (Unit {0})
+answer_by tests = first_of tests tt
 
 module _ (a : Addition) where
   abbrev d : Description
@@ -56,39 +51,40 @@ module _ (a : Addition) where
     place = place_tests lent t a
 
     -- 10 to 12, then 13, then the others
-    same_order : answer_of (segment_tests d c ++ (fold_tests d c ++ place)) ≡ answer_of (addition_tests lent t a)
-    same_order = ap answer_of (sym (append_assoc (segment_tests d c) (fold_tests d c) place))
+    same_order : answer_by (segment_tests d c ++ (fold_tests d c ++ place)) ≡ answer_by (addition_tests lent t a)
+    same_order = ap answer_by (sym (append_assoc (segment_tests d c) (fold_tests d c) place))
 
     -- the first six refuse it
     pub refused-early : {k : ℕ} → refused k ≡ first_of (segment_tests d c) (topology_of d (vertices_in c))
-        → (eqb k not_finite ≡ false) × (refused k ≡ answer_of (addition_tests lent t a))
+        → (eqb k not_finite ≡ false) × (refused k ≡ answer_by (addition_tests lent t a))
     refused-early h = (
       other-than not_finite (segment_tests d c) (topology_of d (vertices_in c)) (refl, (refl, (refl, (refl, (refl, (refl, tt)))))) h,
       refused-by (segment_tests d c) (fold_tests d c ++ place) (topology_of d (vertices_in c)) tt h ∙ same_order,
     )
 
     module _ (h : AllPermitted (segment_tests d c)) where
-      after-segments : answer_of (fold_tests d c ++ place) ≡ answer_of (addition_tests lent t a)
+      after-segments : answer_by (fold_tests d c ++ place) ≡ answer_by (addition_tests lent t a)
       after-segments = passed-by (segment_tests d c) (fold_tests d c ++ place) tt h ∙ same_order
 
-      -- a fold (13), or else 2, 3 or 4, refuses it
-      fold-or : (folds : Bool) {k : ℕ} → refused k ≡ answer_of (fit_tests lent t d c)
-          → refused (cond folds k 13) ≡ cond folds (answer_of place) (refused 13)
-      fold-or true e = refused-by (fit_tests lent t d c) (finite_tests a) tt tt e
-      fold-or false e = refl
+      -- a fold (13) refuses it
+      pub refused-fold : {k : ℕ} → refused k ≡ answer_by (fold_tests d c)
+          → (eqb k not_finite ≡ false) × (refused k ≡ answer_by (addition_tests lent t a))
+      refused-fold e = (
+        other-than not_finite (fold_tests d c) tt (refl, tt) e,
+        refused-by (fold_tests d c) place tt tt e ∙ after-segments,
+      )
 
-      other-fold : (folds : Bool) {k : ℕ} → refused k ≡ answer_of (fit_tests lent t d c)
-          → eqb (cond folds k 13) not_finite ≡ false
-      other-fold true e = other-than not_finite (fit_tests lent t d c) tt (refl, (refl, (refl, tt))) e
-      other-fold false e = refl
-
-      pub refused-room : {k : ℕ} → refused k ≡ answer_of (fit_tests lent t d c)
-          → let n = cond (curve_folds_permitted d c) k 13 in
-          (eqb n not_finite ≡ false) × (refused n ≡ answer_of (addition_tests lent t a))
-      refused-room e =
-          (other-fold (curve_folds_permitted d c) e, fold-or (curve_folds_permitted d c) e ∙ after-segments)
+      -- or else 2, 3 or 4 does
+      pub refused-room : {k : ℕ} → AllPermitted (fold_tests d c) → refused k ≡ answer_by (fit_tests lent t d c)
+          → (eqb k not_finite ≡ false) × (refused k ≡ answer_by (addition_tests lent t a))
+      refused-room folds e = (
+        other-than not_finite (fit_tests lent t d c) tt (refl, (refl, (refl, tt))) e,
+        refused-by (fit_tests lent t d c) (finite_tests a) tt tt e
+            ∙ passed-by (fold_tests d c) place tt folds
+            ∙ after-segments,
+      )
 
       -- where it has room, 13 and 23 are left to be tried
       pub enough-room : AllPermitted (fit_tests lent t d c)
-          → answer_of (fold_tests d c ++ finite_tests a) ≡ answer_of (addition_tests lent t a)
+          → answer_by (fold_tests d c ++ finite_tests a) ≡ answer_by (addition_tests lent t a)
       enough-room fit = passed-within (fold_tests d c) (fit_tests lent t d c) (finite_tests a) tt fit ∙ after-segments

@@ -1,8 +1,6 @@
 -- A body of a permitted shape has as many vertices and triangles as the counts promise. Assumes
 -- nothing.
-use mathlib.Core.Path.{◌≡◌, ap, ◌∙◌}
-use Prim.Native.Nat.{ℕ, ◌*◌, ◌/◌}
-use native.Mathlib.Omega.{arith}
+use Rattle.std.proofs.Common.{◌≡◌, ap, ◌∙◌, ℕ, ◌*◌, ◌/◌, arith}
 use Rattle.kinds.specs.Kinds.{vertex_count, triangle_count}
 use Rattle.kinds.specs.declared.topology.Topology.{Topology}
 use Rattle.kinds.proofs.Claims.{permitted-claims}

@@ -10,7 +10,8 @@ use Rattle.descriptions.specs.Refusals.{checked_tests}
 use Rattle.descriptions.specs.declared.description.Description.{Description}
 use Rattle.twists.specs.declared.twist.Twist.{Twist}
 use Rattle.bodies.specs.Bodies.{floats_finite, twist_taken}
-use Rattle.set_table.specs.Room.{Lengths, room_tests}
+use Rattle.set_table.specs.Room.{room_tests}
+use Rattle.set_table.specs.declared.lengths.Lengths.{Lengths}
 use Rattle.set_table.specs.declared.totals.Totals.{Totals}
 
 -- 2, 3 and 4 of the body's counts

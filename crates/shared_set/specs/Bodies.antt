@@ -34,16 +34,13 @@ body_alone a = record {
   triangles = triangles_of (topology_of a.description (vertices_in a.curve));
 }
 
--- the entry of a body of this kind, n and counts that follows bodies of these totals
-abbrev pub entry_with : Totals → ℕ → ℕ → ℕ → ℕ → Entry
-entry_with t kind n vertices triangles = record {
-  kind = kind;
-  divisions = n;
-  vertex = t.vertices;
-  vertices = vertices;
-  triangle = t.triangles;
-  triangles = triangles;
-}
-
+-- the entry of a body that follows bodies of these totals
 abbrev pub entry_of : Totals → Body → Entry
-entry_of t b = entry_with t b.kind b.divisions (vertex_count_in b) (triangle_count_in b)
+entry_of t b = record {
+  kind = b.kind;
+  divisions = b.divisions;
+  vertex = t.vertices;
+  vertices = vertex_count_in b;
+  triangle = t.triangles;
+  triangles = triangle_count_in b;
+}

@@ -58,10 +58,6 @@ add_tests a s =
     table_tests s.table (length s.vertices) (length s.triangles)
     ++ addition_tests (lengths_of s) (totals_in s.table) a
 
--- an add to a set of these totals, whose table is not damaged
-abbrev pub appended : Addition → Totals → Buffers → After
-appended a t s = after_answer t (body_alone a) s (first_of (addition_tests (lengths_of s) t a) tt)
-
 -- add: its answer and the buffers after it
 unfoldable pub added : Addition → Buffers → After
 added a s = after_answer (totals_in s.table) (body_alone a) s (first_of (add_tests a s) tt)

@@ -5,6 +5,7 @@
 mod addition;
 mod clearing;
 mod drawing;
+mod fitting;
 mod placing;
 
 pub use addition::add;

@@ -1,12 +1,13 @@
 -- What reads and writes do to the known bytes, one after the other. Assumes nothing.
-use Rattle.std.proofs.Common.{append_assoc, subst, IfSome, ◌≡◌, ℕ, ◌+◌, ◌-◌, ◌≤◌, List, ◌++◌, ◌∙◌, sym, ap}
-use Rattle.std.proofs.Common.{le_refl, length, take, drop, drop_at, length-take-le}
+use Rattle.std.proofs.Common.{append_assoc, subst, IfSome, ◌≡◌, ℕ, ◌+◌, ◌-◌, ◌≤◌, List, ◌++◌, ◌∙◌}
+use Rattle.std.proofs.Common.{sym, ap, le_refl, refl, length, take, drop, drop_at, length-take-le}
+use Rattle.std.proofs.Common.{length-append, arith, take_at, take-append-drop, take-add, Option}
+use Rattle.std.proofs.Common.{None, Some}
+use Rattle.streams.specs.Filled.{AppendsFront}
 use Rattle.std.proofs.lemmas.Slice.{take-put_mid_below}
 use Rattle.std.proofs.lemmas.List.{take_rest}
 use borrow.Rule.Slice.PartMut.{put_mid, post_of}
-use lib.Seq.{take-add, take-append-le}
-use Rattle.std.specs.declared.option.Option.{Option}
-use Rattle.std.specs.declared.option.Option.TheVariants.{None, Some}
+use lib.Seq.{take-append-le}
 use Rattle.std.specs.Io.KnownBytes.{Keeps, Appends, Consumes, prepend_known}
 
 pub kept_consumes : (a b c : Option (List ℕ)) (bs : List ℕ) → Keeps a b → Consumes b c bs → Consumes a c bs
@@ -32,9 +33,22 @@ front_filled a k n xs ys within fits =
     ∙ ap (λ l. take a xs ++ take n l) (drop_at (take a xs) (ys ++ after) a (length-take-le a xs within))
     ∙ ap (λ l. take a xs ++ l) (take-append-le n ys after fits)
 
--- the front of a buffer of which n bytes more were written
-pub front_more : (a n : ℕ) (xs : List ℕ) → take a xs ++ take n (take (length xs - a) (drop a xs)) ≡ take (a + n) xs
-front_more a n xs = ap (λ l. take a xs ++ take n l) (take_rest xs a) ∙ sym (take-add a n xs)
+-- what was written is a front of the buffer
+pub is_front : (a b : Option (List ℕ)) (front rest : List ℕ) {buf : List ℕ} → buf ≡ front ++ rest
+    → Appends a b front → AppendsFront a b buf
+is_front a b front rest is written = (
+  length front,
+  omega (arith, ap length is, length-append front rest),
+  subst (Appends a b) (sym (ap (take (length front)) is ∙ take_at front rest (length front) refl)) written,
+)
+
+-- the front of a buffer of which n bytes more were written, and what is left of it
+pub rest_more : (front rest : List ℕ) (n : ℕ) {buf : List ℕ} → buf ≡ front ++ rest
+    → buf ≡ (front ++ take n rest) ++ take (length rest - n) (drop n rest)
+rest_more front rest n is =
+    is
+    ∙ ap (λ l. front ++ l) (sym (take-append-drop n rest) ∙ ap (λ l. take n rest ++ l) (sym (take_rest rest n)))
+    ∙ sym (append_assoc front (take n rest) (take (length rest - n) (drop n rest)))
 
 -- ---- bytes that were read before the known ones
 

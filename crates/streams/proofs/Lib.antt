@@ -1,3 +1,4 @@
+mod Again
 mod Kept
 mod Records
 pub mod Words

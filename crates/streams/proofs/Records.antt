@@ -1,21 +1,18 @@
 -- The words of a head and of what follows it: what they are once they were read, and whether they
 -- begin with a record. Assumes nothing.
-use Rattle.std.proofs.Common.{◌≡◌, ℕ, ◌+◌, ◌-◌, ◌*◌, ◌/◌, ◌≤◌, ◌<◌, min, Bool, true, false, cond, ◌&&◌, List}
-use Rattle.std.proofs.Common.{[], ◌++◌, ◌∙◌, refl, sym, ap, subst, arith, length, take, drop, get_or}
-use Rattle.std.proofs.Common.{length-append, length-take}
-use borrow.Author.Tests.{le-leb, lt-leb, leb-true, leb-false}
-use lib.Dec.{leb}
+use Rattle.std.proofs.Common.{◌≡◌, ℕ, ◌+◌, ◌-◌, ◌*◌, ◌/◌, ◌≤◌, ◌<◌, Bool, true, false, cond}
+use Rattle.std.proofs.Common.{◌&&◌, List, ◌++◌, ◌∙◌, refl, sym, ap, subst, arith, length, take}
+use Rattle.std.proofs.Common.{length-append, le-leb, leb-true, leb-false}
+use Rattle.std.proofs.Common.{leb, Option, None, Some, Result, Ok, Err}
+use borrow.Author.Tests.{lt-leb}
 use Rattle.std.proofs.Math.ListN.{get_or-append}
 use Rattle.laws.specs.Overwrite.{placed}
 use Rattle.laws.proofs.Lent.{part-written}
 use Rattle.little_endian.specs.Words.{words_in}
-use Rattle.records.specs.Records.{head_words, most_vertices, vertices_named, head_names, length_named, record_words}
-use Rattle.records.proofs.Lengths.{all_there, too_few, named-bounds}
-use Rattle.std.specs.declared.option.Option.{Option}
-use Rattle.std.specs.declared.option.Option.TheVariants.{None, Some}
+use Rattle.records.specs.Records.{vertices_named, head_names, length_named, record_words}
+use Rattle.records.proofs.Lengths.{all_there, too_few}
 use Rattle.std.specs.Io.KnownBytes.{Consumes, prepend_known}
-use Rattle.streams.specs.declared.record.Next.{Next}
-use Rattle.streams.specs.declared.record.Next.TheVariants.{Record, Stop as StopsFor}
+use Rattle.streams.specs.declared.record.Stop.{Stop}
 use Rattle.streams.specs.Record.{NamesTooMany, IsCutShort, ReadFrom}
 use Rattle.streams.proofs.Words.{length-words, words-append}
 
@@ -105,10 +102,10 @@ still_too_many head more sized none =
     )
 
 -- what follows a head, as what the head begins
-pub behind_head : (old mid new : Option (List ℕ)) (head : List ℕ) (next : Next) (found : List ℕ) → Consumes old mid head
+pub behind_head : (old mid new : Option (List ℕ)) (head : List ℕ) (next : Result ℕ Stop) (found : List ℕ) → Consumes old mid head
     → ReadFrom (prepend_known head mid) new next found → ReadFrom old new next found
-behind_head None mid new head (Record count) found p (bytes, q, sized, read) = (bytes, tt, sized, read)
-behind_head None mid new head (StopsFor why) found p q = tt
+behind_head None mid new head (Ok count) found p (bytes, q, sized, read) = (bytes, tt, sized, read)
+behind_head None mid new head (Err why) found p q = tt
 behind_head (Some x) None new head next found p q = absurd p
 behind_head (Some x) (Some y) new head next found p q =
     subst (λ (l : List ℕ). ReadFrom (Some l) new next found) (sym p) q

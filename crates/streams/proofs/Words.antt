@@ -1,6 +1,7 @@
 -- The words of bytes that were read in two parts, a head and what follows it. Assumes nothing.
-use Rattle.std.proofs.Common.{◌≡◌, ℕ, ◌+◌, ◌*◌, ◌/◌, ◌≤◌, ◌<◌, List, [], ◌∷◌, ◌++◌, add-zero, ◌∙◌, refl, sym}
-use Rattle.std.proofs.Common.{ap, arith, length, get_or, length-append, get_or-append-add}
+use Rattle.std.proofs.Common.{◌≡◌, ℕ, ◌+◌, ◌*◌, ◌/◌, ◌<◌, List, [], ◌∷◌, ◌++◌, add-zero, ◌∙◌}
+use Rattle.std.proofs.Common.{refl, ap, arith, length, get_or, length-append}
+use Rattle.std.proofs.Common.{get_or-append-add}
 use Rattle.std.proofs.Math.ListN.{get_or-append}
 use Rattle.laws.specs.Blocks.{blocks}
 use Rattle.laws.proofs.Blocks.{length-blocks, blocks-cong, blocks-split}

@@ -5,33 +5,16 @@
 
 mod record;
 
-ghost use Rattle.std.specs.Prelude.{◌≡◌, ◌≢◌, ◌↔◌, length, IsTrue, IfErr, OnOk, OnErr};
+ghost use Rattle.std.specs.Prelude.{◌≡◌, ◌≢◌, ◌≤◌, length, IfOk, IfErr, OnOk, OnErr};
 ghost use Rattle.std.specs.IoError.{error_kind};
 ghost use Rattle.std.specs.Io.{ReadsAtMost, WritesAtMost};
 ghost use Rattle.std.specs.Io.KnownBytes.{Appends, ReadConsumes, WriteAppends};
-ghost use Rattle.streams.specs.Filled.{FilledIn, FilledFrom, AppendsFront};
+ghost use Rattle.streams.specs.Again.{MadeAgain};
+ghost use Rattle.streams.specs.Filled.{FilledFrom, AppendsFront};
 
-pub use record::{Next, RECORD_BYTES, RECORD_WORDS, Stop, read_record};
+pub use record::{RECORD_BYTES, RECORD_WORDS, Stop, read_record};
 use std::io;
 use std::io::{Error, ErrorKind, Read, Write};
-
-// How far a buffer was filled.
-#[derive(Clone, Copy)]
-pub enum Filled {
-    // To its end.
-    Full,
-    // The input ended after this number of bytes.
-    Ended(usize),
-    // A read failed, and why.
-    Failed(Error),
-}
-
-// Whether a signal interrupted the call that gave this error, before it moved a byte.
-fn is_interrupted(error: &Error) -> bool
-    ensures { IsTrue result ↔ (error_kind error.now ≡ ErrorKind.Interrupted) }
-{
-    error.kind() == ErrorKind::Interrupted
-}
 
 // What a call comes to that signals interrupt for ever.
 fn gave_up() -> Error
@@ -40,24 +23,30 @@ fn gave_up() -> Error
     Error::new(ErrorKind::TimedOut, "interrupted 2^64 times")
 }
 
-// Reads once to the front of `buf`, again after each interruption. The count ends the loop if the
+// Makes a call that moves bytes, and again after each interruption. The count ends the loop if the
 // interruptions never do.
+fn retry<F: FnMut() -> io::Result<usize>>(call: &mut F) -> io::Result<usize>
+    requires { F.IsAlwaysCallable call.old }
+    ensures calls { MadeAgain F.step call.old result call.new }
+    ensures made_again { IfErr result (λ e. error_kind e ≢ ErrorKind.Interrupted) }
+{
+    for _ in 0..u64::MAX {
+        match call() {
+            Err(error) if error.kind() == ErrorKind::Interrupted => {}
+            result => return result,
+        }
+    }
+    Err(gave_up())
+}
+
+// Reads once to the front of `buf`, again after each interruption.
 fn read_some<R: Read>(input: &mut R, buf: &mut [u8]) -> io::Result<usize>
     ensures bound { ReadsAtMost result buf.new }
     ensures bytes { ReadConsumes (R.remaining input.old) (R.remaining input.new) result buf.new }
     ensures made_again { IfErr result (λ e. error_kind e ≢ ErrorKind.Interrupted) }
 {
-    for _ in 0..u64::MAX {
-        match input.read(buf) {
-            Ok(count) => return Ok(count),
-            Err(error) => {
-                if !is_interrupted(&error) {
-                    return Err(error);
-                }
-            }
-        }
-    }
-    Err(gave_up())
+    let mut read = || input.read(buf);
+    retry(&mut read)
 }
 
 // Writes once from the front of `buf`, again after each interruption.
@@ -66,37 +55,28 @@ fn write_some<W: Write>(output: &mut W, buf: &[u8]) -> io::Result<usize>
     ensures bytes { WriteAppends (W.contents output.old) (W.contents output.new) result buf.now }
     ensures made_again { IfErr result (λ e. error_kind e ≢ ErrorKind.Interrupted) }
 {
-    for _ in 0..u64::MAX {
-        match output.write(buf) {
-            Ok(count) => return Ok(count),
-            Err(error) => {
-                if !is_interrupted(&error) {
-                    return Err(error);
-                }
-            }
-        }
-    }
-    Err(gave_up())
+    let mut write = || output.write(buf);
+    retry(&mut write)
 }
 
-// Reads until `buf` is full, the input ends or a read fails.
-pub fn read_full<R: Read>(input: &mut R, buf: &mut [u8]) -> Filled
-    ensures count { FilledIn result (length buf.old) }
+// Reads until `buf` is full, the input ends or a read fails. Answers how many bytes were read: all
+// of `buf`, or fewer where the input ended. This loop and the next have no range to go over: a call
+// moves as many bytes as it likes, and none where the input ends or the output takes no more. The
+// library's `read_exact` does not say how many bytes there were, nor its `write_all` which of them
+// were written where it fails.
+pub fn read_full<R: Read>(input: &mut R, buf: &mut [u8]) -> io::Result<usize>
+    ensures count { IfOk result (λ count. count ≤ length buf.old) }
     ensures bytes { FilledFrom (R.remaining input.old) (R.remaining input.new) result buf.new }
 {
     let mut done: usize = 0;
     while done < buf.len() {
-        match read_some(input, &mut buf[done..]) {
-            Err(error) => return Filled::Failed(error),
-            Ok(more) => {
-                if more == 0 {
-                    return Filled::Ended(done);
-                }
-                done += more;
-            }
+        let more = read_some(input, &mut buf[done..])?;
+        if more == 0 {
+            break;
         }
+        done += more;
     }
-    Filled::Full
+    Ok(done)
 }
 
 // Writes all of `buf`. Where a write fails or takes nothing, the front of `buf` may have been
@@ -106,13 +86,13 @@ pub fn write_all<W: Write>(output: &mut W, buf: &[u8]) -> io::Result<()>
     ensures front { OnErr result
         (AppendsFront (W.contents output.old) (W.contents output.new) buf.now) }
 {
-    let mut done: usize = 0;
-    while done < buf.len() {
-        let taken = write_some(output, &buf[done..])?;
+    let mut rest = buf;
+    while !rest.is_empty() {
+        let taken = write_some(output, rest)?;
         if taken == 0 {
             return Err(Error::new(ErrorKind::WriteZero, "no byte was taken"));
         }
-        done += taken;
+        rest = &rest[taken..];
     }
     Ok(())
 }

@@ -1,8 +1,9 @@
 -- Records that other words follow: the additions of all are theirs, and then those of what
 -- follows. Assumes nothing.
-use Rattle.std.proofs.Common.{◌≡◌, refl, sym, ap, ◌∙◌, subst, List, [], ◌++◌, append_assoc, append-nil, map, ℕ}
-use Rattle.std.proofs.Common.{◌+◌, ◌*◌, ◌≤◌, ◌<◌, not, eqb, length, get_or, take, drop, length-append}
-use Rattle.std.proofs.Common.{length-drop, drop_at, arith, Bool, true, false, Float, IfSome}
+use Rattle.std.proofs.Common.{◌≡◌, refl, sym, ap, ◌∙◌, List, [], ◌++◌, append_assoc}
+use Rattle.std.proofs.Common.{append-nil, map, ℕ, ◌+◌, ◌*◌, ◌<◌, not, eqb, length, get_or}
+use Rattle.std.proofs.Common.{take, drop, length-append, length-drop, drop_at, arith, Bool, true}
+use Rattle.std.proofs.Common.{false, IfSome, Option, None, Some}
 use Rattle.std.proofs.Math.ListN.{get_or-append}
 use Rattle.std.specs.Float.{binary32}
 use Rattle.std.specs.Float.Ieee.{of_bits}
@@ -11,9 +12,8 @@ use Rattle.laws.specs.Parts.{part}
 use Rattle.little_endian.specs.Words.{words_in}
 use Rattle.set_table.specs.Buffers.{Buffers}
 use Rattle.descriptions.specs.KindNumbers.{described_of}
-use Rattle.descriptions.specs.declared.kind.Described.{Described}
-use Rattle.ledger.specs.Calls.{Call, Called, additions}
-use Rattle.records.specs.Records.{head_words, most_vertices, vertices_named, head_names, begins_with_record}
+use Rattle.ledger.specs.Calls.{Call, additions}
+use Rattle.records.specs.Records.{head_words, vertices_named, head_names, begins_with_record}
 use Rattle.records.specs.Records.{record_words, described_in, curve_in, addition_of, first_addition}
 use Rattle.records.specs.Records.{additions_in}
 use Rattle.records.proofs.Additions.{Whole, whole, whole-begins, record-length, first-addition, is-record}
@@ -22,8 +22,6 @@ use Rattle.streams.specs.declared.record.Stop.{Stop}
 use Rattle.streams.specs.declared.record.Stop.TheVariants.{End, Short, TooLong, Failed}
 use Rattle.streams.specs.Record.{StopsBefore, NamesTooMany}
 use Rattle.streams.proofs.Words.{words-append}
-use Rattle.std.specs.declared.option.Option.{Option}
-use Rattle.std.specs.declared.option.Option.TheVariants.{None, Some}
 use Rattle.sweep.specs.Input.{Records, none, then, EachWhole, additions_from}
 use Rattle.sweep.specs.Known.{words_of, AddedFrom, AddedAll, UnlessFailed}
 

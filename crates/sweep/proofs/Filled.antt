@@ -1,16 +1,9 @@
 -- The words of a set's file: what a file word tells of them, and a buffer that is filled with
 -- them. Assumes nothing.
-use mathlib.Core.Path.{◌≡◌, refl, sym, ap, ◌∙◌}
-use mathlib.Core.Bool.{Bool, true, false, cond}
-use mathlib.Core.List.{List, [], ◌∷◌, ◌++◌}
-use Prim.Native.Nat.{ℕ, ◌+◌, ◌≤◌, ◌<◌, min}
-use native.Mathlib.Nat.{zero-add}
-use native.Mathlib.Numerals.{add-one}
-use native.Mathlib.Omega.{arith}
-use borrow.Author.Tests.{leb-true, leb-false}
-use lib.Dec.{leb}
-use lib.ListN.{length, get_or, set, take, drop, length-set, take-append-drop}
-use lib.Seq.{length-take-le, take-suc, take_all}
+use Rattle.std.proofs.Common.{◌≡◌, refl, sym, ap, ◌∙◌, Bool, true, false, cond, List, [], ◌∷◌, ◌++◌}
+use Rattle.std.proofs.Common.{ℕ, ◌+◌, ◌≤◌, ◌<◌, min, zero-add, add-one, arith, leb-true, leb-false}
+use Rattle.std.proofs.Common.{leb, length, get_or, set, take, drop, length-set, take-append-drop}
+use Rattle.std.proofs.Common.{length-take-le, take-suc, take_all}
 use Rattle.laws.specs.Overwrite.{overwrite}
 use Rattle.laws.proofs.Overwrite.{overwrite-none, written_behind, overwrite-past, one_store}
 use Rattle.answers.specs.Answers.{Answer, refused, accepted, first_of, test}
@@ -77,7 +70,7 @@ module _ (file words₀ : List ℕ) where
         written_behind 0 (take i file) more words₀ f.holds (length-take-le i file f.within)
         (written ∙ ap (λ (k : ℕ). overwrite k more words) (sym (zero-add i)))
 
-    pub one-filled : {w : ℕ} → i < length words → i < length file → w ≡ get_or file i 0
+    pub one-filled : {w : ℕ} → i < length words₀ → i < length file → w ≡ get_or file i 0
         → Filled file words₀ (i + 1) (set words i w)
     one-filled {w} fits more is =
         let next : take (i + 1) file ≡ take i file ++ (w ∷ []) = rw (add-one i, is) (take-suc file i 0 more) in record {
@@ -88,14 +81,14 @@ module _ (file words₀ : List ℕ) where
         }
 
     -- how many are written, and what the buffer holds, where no word is left, or no room
-    abbrev Whole : Type 0
-    Whole = (i ≡ min (length file) (length words₀)) × (words ≡ overwrite 0 file words₀)
+    abbrev Whole : ℕ → Type 0
+    Whole count = (count ≡ min (length file) (length words₀)) × (words ≡ overwrite 0 file words₀)
 
-    pub no-word-left : length file ≤ i → Whole
+    pub no-word-left : length file ≤ i → Whole i
     no-word-left h = (omega arith, f.holds ∙ ap (λ (l : List ℕ). overwrite 0 l words₀) (take_all i file h))
 
-    pub no-room-left : length words ≤ i → Whole
+    pub no-room-left : length words₀ ≤ i → Whole (length words)
     no-room-left h = (
       omega (arith, f.sized),
-      more-written (drop i file) (overwrite-past i (drop i file) words h) ∙ ap (λ (l : List ℕ). overwrite 0 l words₀) (take-append-drop i file),
+      more-written (drop i file) (overwrite-past i (drop i file) words (omega (arith, f.sized))) ∙ ap (λ (l : List ℕ). overwrite 0 l words₀) (take-append-drop i file),
     )

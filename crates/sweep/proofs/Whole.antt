@@ -1,14 +1,10 @@
 -- A set's file is no longer than the buffers that it is made in, so that all of its words, and all
 -- of their bytes, are there. Assumes nothing.
-use mathlib.Core.Path.{◌≡◌, refl, sym, ap, ◌∙◌}
-use mathlib.Core.Bool.{Bool, true, false, cond}
-use mathlib.Core.List.{List, [], ◌++◌, map}
-use Prim.Native.Nat.{ℕ, ◌-◌, ◌*◌, ◌/◌, ◌≤◌, min}
-use native.Mathlib.Omega.{arith}
-use borrow.Author.Tests.{le-leb}
-use lib.Dec.{leb}
-use lib.Ieee.{binary32, to_bits}
-use lib.ListN.{length, get_or, take, drop, length-append, length-drop, length-map, length-take}
+use Rattle.std.proofs.Common.{◌≡◌, refl, sym, ap, ◌∙◌, Bool, true, false, cond, List, [], ◌++◌, map}
+use Rattle.std.proofs.Common.{ℕ, ◌-◌, ◌*◌, ◌/◌, ◌≤◌, min, arith, le-leb, leb, to_bits, length}
+use Rattle.std.proofs.Common.{get_or, take, drop, length-append, length-drop, length-take}
+use lib.Ieee.{binary32}
+use lib.ListN.{length-map}
 use Rattle.laws.specs.Parts.{part}
 use Rattle.laws.specs.Overwrite.{overwrite, placed}
 use Rattle.laws.proofs.Blocks.{length-blocks}
@@ -79,11 +75,11 @@ bytes-written ws old {bytes} room is written =
 
 -- what is written to standard output
 pub all-bytes : (s : Buffers) (old old' : List ℕ) {words bytes : List ℕ} {r : Bool} {count : ℕ} → Sized s
-    → 24964 ≡ length old → 99856 ≡ length old'
     → count ≡ min (length (file_words s)) (length old) → words ≡ overwrite 0 (file_words s) old
     → r ≡ leb (length (take count words)) (length old' / 4) → bytes ≡ placed r (bytes_in (take count words)) old'
+    → 24964 ≡ length old → 99856 ≡ length old'
     → take (4 * count) bytes ≡ bytes_in (file_words s)
-all-bytes s old old' {words} {bytes} {r} {count} sized room room' is filled has written =
+all-bytes s old old' {words} {bytes} {r} {count} sized is filled has written room room' =
     let file = file_words s in
     let all : length file ≡ count = omega (arith, most-words s sized) in
     let front : take count words ≡ file = ap (take count) filled ∙ part-written 0 count file old all (omega arith) in

@@ -13,25 +13,21 @@ mod input;
 mod output;
 mod report;
 mod run;
+mod set;
 
 use crate::run::sweep;
-
-// A table of the most bodies.
-const TABLE: usize = 1 + 6 * 64;
-
-// The elements of the vertex buffer, and of the triangle buffer.
-const ELEMENTS: usize = 12288;
+use crate::set::{ELEMENTS, SetBuffers, TABLE};
 
 fn main(rt: HostRuntime) {
-    let mut table = [0u32; TABLE];
-    let mut vertices = [0f32; ELEMENTS];
-    let mut triangles = [0u32; ELEMENTS];
+    let mut set = SetBuffers {
+        table: [0; TABLE],
+        vertices: [0.0; ELEMENTS],
+        triangles: [0; ELEMENTS],
+    };
     sweep(
         &mut rt.stdin(),
         &mut rt.stdout(),
         &mut rt.stderr(),
-        &mut table,
-        &mut vertices,
-        &mut triangles,
+        &mut set,
     );
 }

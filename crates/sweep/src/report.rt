@@ -1,4 +1,4 @@
-ghost use Rattle.std.specs.Prelude.{◌≡◌, ◌+◌, ◌<◌, IfSome, IsOk, OnOk, codes};
+ghost use Rattle.std.specs.Prelude.{◌≡◌, ◌+◌, IfSome, IsOk, OnOk, codes};
 ghost use Rattle.std.specs.Io.KnownBytes.{Appends, Keeps};
 ghost use Rattle.sweep.specs.Report.{EndsWell, fault_line};
 
@@ -28,9 +28,9 @@ impl Display for Words {
 
 // Writes a line to `errors`: which record is at fault, by its number, what is wrong with it, and
 // what is kept.
-fn say<E: Write>(errors: &mut E, number: u64, fault: &str) -> io::Result<()>
-    ensures { OnOk result (Appends (E.contents errors.old) (E.contents errors.new)
-        (fault_line number fault.now)) }
+fn say<E: Write, F: Display + Drop>(errors: &mut E, number: u64, fault: F) -> io::Result<()>
+    ensures { OnOk result (IfSome (F.output fault) (λ text.
+        Appends (E.contents errors.old) (E.contents errors.new) (fault_line number text))) }
 {
     writeln!(
         errors,
@@ -47,7 +47,6 @@ fn say_failure<E: Write>(errors: &mut E, what: &str, error: Error) -> io::Result
 // Says on `errors` why no more records were added. If the input ended after the last record, it
 // says nothing. Records are counted from 1.
 pub(crate) fn report_reading<E: Write>(errors: &mut E, reading: Reading) -> io::Result<()>
-    requires { IfSome reading.stop (λ _. reading.count < 18446744073709551615) }
     ensures quiet { EndsWell reading.stop
         → Keeps (E.contents errors.old) (E.contents errors.new) }
     ensures short { reading.stop ≡ Some Stop.Short
@@ -58,20 +57,12 @@ pub(crate) fn report_reading<E: Write>(errors: &mut E, reading: Reading) -> io::
         (fault_line (reading.count + 1) (codes "names more than 512 curve vertices"))) }
 {
     match reading.stop {
-        None => Ok(()),
-        Some(Stop::End) => Ok(()),
-        Some(Stop::Short) => {
-            let fault = "is cut short by the end of the input";
-            say(errors, reading.count + 1, fault)
-        }
-        Some(Stop::TooLong) => {
-            let fault = "names more than 512 curve vertices";
-            say(errors, reading.count + 1, fault)
-        }
+        None | Some(Stop::End) => Ok(()),
         Some(Stop::Failed(error)) => {
             let what = "standard input could not be read; the set has only the records before that";
             say_failure(errors, what, error)
         }
+        Some(fault) => say(errors, reading.count + 1, fault),
     }
 }
 

@@ -1,19 +1,21 @@
 -- Each turn of the loop stores one word behind the last.
-use Rattle.std.proofs.Common.{refl, sym, ap, ℕ, [], ◌∷◌, arith}
+use Rattle.std.proofs.Common.{◌≡◌, ◌∙◌, refl, sym, ap, ℕ, ◌+◌, ◌*◌, ◌/◌, ◌<◌, List, [], ◌∷◌, length, get_or, add-zero, arith}
 use Rattle.laws.proofs.Overwrite.{overwrite-none, one_store}
 use Rattle.laws.proofs.Blocks.{one_more}
+use Rattle.little_endian.proofs.Chunks.{chunk-byte}
 use Rattle.little_endian.proofs.read_words.Invariants.{here}
 use Rattle.little_endian.proofs.read_words.Goals as goal
 
 pub loop-i-init : goal.loop-i-init
-loop-i-init c = record { within = omega arith; stored = sym (overwrite-none 0 _) }
+loop-i-init c = sym (overwrite-none 0 _)
 
 pub loop-i-preserved : goal.loop-i-preserved
 loop-i-preserved c =
     let l = c.loop-i in
-    let a = c.args in
-    record {
-      within = omega arith;
-      stored = one_more 0 l.i 1 (here a.bytes.now) a.out.now (λ k h. refl) l.invariant.stored (omega arith)
-          (one_store l.i c.word.result l.out) (ap (λ (w : ℕ). w ∷ []) c.word.ensures);
-    }
+    let bytes = c.args.bytes.now in
+    let chunks = c.as_chunks.result.0.now in
+    let byte : (b : ℕ) → b < 4 → get_or (get_or chunks l.i []) b 0 ≡ get_or bytes (4 * l.i + b) 0 =
+    λ b h. ap (λ (cs : List (List ℕ)). get_or (get_or cs l.i []) b 0) c.as_chunks.ensures.front ∙ chunk-byte (length bytes / 4) bytes l.i b (omega arith) h in
+    let lowest = simp add-zero at (byte 0 (omega arith)) in
+    one_more 0 l.i 1 (here bytes) c.args.out.now (λ k h. refl) l.invariant (omega arith)
+    (one_store l.i c.from_le_bytes.result l.out) (ap (λ (w : ℕ). w ∷ []) (omega (arith, lowest, byte 1 (omega arith), byte 2 (omega arith), byte 3 (omega arith))))

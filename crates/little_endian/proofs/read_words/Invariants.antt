@@ -1,5 +1,5 @@
 -- Each turn of the loop stores one word behind the last.
-use Rattle.std.proofs.Common.{◌≡◌, List, ℕ, ◌*◌, ◌-◌, ◌≤◌}
+use Rattle.std.proofs.Common.{◌≡◌, List, ℕ, ◌*◌}
 use Rattle.laws.specs.Overwrite.{overwrite}
 use Rattle.laws.specs.Blocks.{blocks}
 use Rattle.little_endian.specs.Words.{word_at}
@@ -10,10 +10,4 @@ abbrev pub here : List ℕ → ℕ → List ℕ
 here bytes i = word_at bytes (4 * i)
 
 abbrev pub invariant-loop-i : goal.invariant-loop-i
-invariant-loop-i l = record {
-  within : l.i ≤ l.count;
-  stored : l.out ≡ overwrite 0 (blocks l.i (here l.bytes)) l.initial.out;
-}
-
-abbrev pub decreases-loop-i : goal.decreases-loop-i
-decreases-loop-i l = l.count - l.i
+invariant-loop-i l = l.out ≡ overwrite 0 (blocks l.i (here l.bytes)) l.initial.out

@@ -1,5 +1,5 @@
 -- Each turn of the loop puts the bytes of one word behind those of the last.
-use Rattle.std.proofs.Common.{◌≡◌, List, ℕ, ◌-◌, ◌≤◌, length, get_or}
+use Rattle.std.proofs.Common.{◌≡◌, List, ℕ, get_or}
 use Rattle.laws.specs.Overwrite.{overwrite}
 use Rattle.laws.specs.Blocks.{blocks}
 use Rattle.little_endian.specs.Words.{bytes_of}
@@ -10,10 +10,4 @@ abbrev pub here : List ℕ → ℕ → List ℕ
 here words i = bytes_of (get_or words i 0)
 
 abbrev pub invariant-loop-i : goal.invariant-loop-i
-invariant-loop-i l = record {
-  within : l.i ≤ length l.words;
-  stored : l.out ≡ overwrite 0 (blocks l.i (here l.words)) l.initial.out;
-}
-
-abbrev pub decreases-loop-i : goal.decreases-loop-i
-decreases-loop-i l = length l.words - l.i
+invariant-loop-i l = l.out ≡ overwrite 0 (blocks l.i (here l.words)) l.initial.out

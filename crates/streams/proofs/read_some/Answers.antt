@@ -1,17 +1,27 @@
+-- The last read gave the result, and those before it took nothing.
 use Rattle.std.proofs.Common.{rules}
+use Rattle.std.specs.Io.{ReadsAtMost}
+use Rattle.std.specs.Io.KnownBytes.{Keeps, ReadConsumes}
 use Rattle.std.proofs.KnownBytes.{Keeps-refl, Keeps-trans}
 use Rattle.streams.proofs.Kept.{kept_consumes}
+use Rattle.streams.proofs.Again.{made_again, unchanged}
 use Rattle.streams.proofs.read_some.Goals as goal
 
-pub loop-init : goal.loop-init
-loop-init g c = Keeps-refl _
+pub returns-clause-bound : goal.returns-clause-bound
+returns-clause-bound g c =
+    let calls = c.retry.ensures.calls in
+    let buf = unchanged calls (λ f. f.1.ghost_name) (λ p r q told. search rules) in
+    let told : ReadsAtMost c.retry.result c.retry.new.call.1.now =
+    made_again calls (λ f. Unit {0}) (λ p error q told _. tt) _ (λ last count told _. search rules) tt in
+    search rules
 
-pub loop-preserved : goal.loop-preserved
-loop-preserved g c = Keeps-trans _ _ _ c.loop.invariant c.in-Err.ensures.bytes
-
-pub returns-in-Ok-clause-bytes : goal.returns-in-Ok-clause-bytes
-returns-in-Ok-clause-bytes g c =
-    (kept_consumes _ _ _ _ c.loop.invariant c.in-Ok.ensures.bytes.0, c.in-Ok.ensures.bytes.1)
-
-pub returns-then-not-is_interrupted-clause-bytes : goal.returns-then-not-is_interrupted-clause-bytes
-returns-then-not-is_interrupted-clause-bytes g c = Keeps-trans _ _ _ c.loop.invariant c.in-Err.ensures.bytes
+pub returns-clause-bytes : goal.returns-clause-bytes
+returns-clause-bytes g c =
+    let calls = c.retry.ensures.calls in
+    let input = unchanged calls (λ f. f.0.ghost_name) (λ p r q told. search rules) in
+    let buf = unchanged calls (λ f. f.1.ghost_name) (λ p r q told. search rules) in
+    let old = g.R.Read.remaining c.args.input.now in
+    let left = c.retry.new.call in
+    let told : ReadConsumes old (g.R.Read.remaining left.0.now) c.retry.result left.1.now =
+    made_again calls (λ f. Keeps old (g.R.Read.remaining f.0.now)) (λ p error q told kept. Keeps-trans _ _ _ kept (search rules)) _ (λ last count told kept. (kept_consumes _ _ _ _ kept (search rules), search rules)) (Keeps-refl _) in
+    search rules

@@ -1,10 +1,10 @@
--- The writer got the front of the buffer, and each turn some more.
-use Rattle.std.proofs.Common.{◌-◌, ◌≤◌, length, take}
+-- The writer got all before the rest of the buffer, and each turn some of the rest.
+use Rattle.std.proofs.Common.{◌≡◌, ◌++◌, List, ℕ, length}
 use Rattle.std.specs.Io.KnownBytes.{Appends}
 use Rattle.streams.proofs.write_all.Given as goal
 
-abbrev pub invariant-loop-done : goal.invariant-loop-done
-invariant-loop-done g l = (l.done ≤ length l.buf) × Appends (g.W.Write.contents l.fn.output) (g.W.Write.contents l.output) (take l.done l.buf)
+abbrev pub invariant-loop-rest : goal.invariant-loop-rest
+invariant-loop-rest g l = (front : List ℕ) × (l.buf ≡ front ++ l.rest) × Appends (g.W.Write.contents l.fn.output) (g.W.Write.contents l.output) front
 
-abbrev pub decreases-loop-done : goal.decreases-loop-done
-decreases-loop-done g l = length l.buf - l.done
+abbrev pub decreases-loop-rest : goal.decreases-loop-rest
+decreases-loop-rest g l = length l.rest

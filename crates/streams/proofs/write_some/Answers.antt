@@ -1,16 +1,27 @@
+-- The last write gave the result, and those before it added nothing.
 use Rattle.std.proofs.Common.{rules}
+use Rattle.std.specs.Io.{WritesAtMost}
+use Rattle.std.specs.Io.KnownBytes.{Keeps, WriteAppends}
 use Rattle.std.proofs.KnownBytes.{Keeps-refl, Keeps-trans}
 use Rattle.streams.proofs.Kept.{kept_appends}
+use Rattle.streams.proofs.Again.{made_again, unchanged}
 use Rattle.streams.proofs.write_some.Goals as goal
 
-pub loop-init : goal.loop-init
-loop-init g c = Keeps-refl _
+pub returns-clause-bound : goal.returns-clause-bound
+returns-clause-bound g c =
+    let calls = c.retry.ensures.calls in
+    let buf = unchanged calls (λ f. f.1.now) (λ p r q told. search rules) in
+    let told : WritesAtMost c.retry.result c.retry.new.call.1.now =
+    made_again calls (λ f. Unit {0}) (λ p error q told _. tt) _ (λ last count told _. search rules) tt in
+    search rules
 
-pub loop-preserved : goal.loop-preserved
-loop-preserved g c = Keeps-trans _ _ _ c.loop.invariant c.in-Err.ensures.bytes
-
-pub returns-in-Ok-clause-bytes : goal.returns-in-Ok-clause-bytes
-returns-in-Ok-clause-bytes g c = kept_appends _ _ _ _ c.loop.invariant c.in-Ok.ensures.bytes
-
-pub returns-then-not-is_interrupted-clause-bytes : goal.returns-then-not-is_interrupted-clause-bytes
-returns-then-not-is_interrupted-clause-bytes g c = Keeps-trans _ _ _ c.loop.invariant c.in-Err.ensures.bytes
+pub returns-clause-bytes : goal.returns-clause-bytes
+returns-clause-bytes g c =
+    let calls = c.retry.ensures.calls in
+    let output = unchanged calls (λ f. f.0.ghost_name) (λ p r q told. search rules) in
+    let buf = unchanged calls (λ f. f.1.now) (λ p r q told. search rules) in
+    let old = g.W.Write.contents c.args.output.now in
+    let left = c.retry.new.call in
+    let told : WriteAppends old (g.W.Write.contents left.0.now) c.retry.result left.1.now =
+    made_again calls (λ f. Keeps old (g.W.Write.contents f.0.now)) (λ p error q told kept. Keeps-trans _ _ _ kept (search rules)) _ (λ last count told kept. kept_appends _ _ _ _ kept (search rules)) (Keeps-refl _) in
+    search rules

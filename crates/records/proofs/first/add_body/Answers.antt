@@ -1,11 +1,9 @@
 -- What is lent as the curve is the front of `scratch` that was filled with its floats. Assumes
 -- nothing.
-use mathlib.Core.Path.{◌≡◌, ap, ◌∙◌}
-use mathlib.Core.List.{List, map}
-use Prim.Native.Nat.{ℕ, ◌+◌, ◌≤◌}
-use native.Mathlib.Omega.{arith}
-use lib.Ieee.{Float, binary32, of_bits}
-use lib.ListN.{length, take, length-map}
+use Rattle.std.proofs.Common.{◌≡◌, ap, ◌∙◌, List, map, ℕ, ◌+◌, ◌≤◌, arith, Float, length, take}
+use Rattle.std.specs.Float.{binary32}
+use Rattle.std.specs.Float.Ieee.{of_bits}
+use Rattle.std.proofs.Math.ListN.{length-map}
 use Rattle.laws.specs.Overwrite.{overwrite}
 use Rattle.laws.proofs.Lent.{part-written}
 use Rattle.set_table.specs.Buffers.{buffers}

@@ -1,27 +1,27 @@
 -- A record that is none, or of no kind, asks for no addition; any other for the one that is made.
 -- Assumes nothing.
-use mathlib.Core.Path.{◌≡◌, sym, ap, ◌∙◌}
-use mathlib.Core.Bool.{true}
-use mathlib.Core.List.{List, [], map}
-use Prim.Native.Nat.{ℕ, ◌+◌, ◌-◌, ◌*◌, ◌≤◌}
-use native.Mathlib.Omega.{arith}
+use Rattle.std.proofs.Common.{◌≡◌, sym, ap, ◌∙◌, true, List, [], map, ℕ, ◌+◌, ◌-◌, ◌*◌, ◌≤◌, arith, Float, length, take, drop, Option, Some, None}
+use Rattle.std.specs.Float.{binary32}
+use Rattle.std.specs.Float.Ieee.{of_bits}
 use borrow.Rule.Slice.PartAt.{part_count}
-use lib.Ieee.{Float, binary32, of_bits}
-use lib.ListN.{length, take, drop}
-use Rattle.descriptions.specs.declared.kind.Described.{Described}
+use Rattle.descriptions.specs.declared.description.Description.{Description}
 use Rattle.set_table.specs.Buffers.{buffers}
 use Rattle.shared_set.specs.Additions.{taken}
 use Rattle.shared_set.specs.Set.{After, added}
 use Rattle.ledger.specs.Calls.{Call, Called, answered, additions}
-use Rattle.records.specs.Records.{begins_with_record, record_words, vertices_named, described_in, curve_in}
+use Rattle.records.specs.Records.{begins_with_record, unless_zero, record_words, vertices_named, described_in, curve_in}
 use Rattle.records.specs.Records.{addition_of, first_addition}
 use Rattle.records.proofs.Additions.{Whole, whole, record-length, is-record, no_record, first-addition, no-addition}
+use Rattle.records.proofs.Lengths.{unless_zero-some, unless_zero-none}
 use Rattle.records.proofs.first.add_first.Goals as goal
 
 -- A record of `end` words that is there: its coordinates lie between its head and its end.
-module _ (words : List ℕ) (end : ℕ) (is : end ≡ record_words words) (some : end ≡ 0 → ⊥) where
+module _ (words : List ℕ) (end : ℕ) (named : Some end ≡ unless_zero (record_words words)) where
+  is : end ≡ record_words words
+  is = (unless_zero-some named).0
+
   begins : begins_with_record words ≡ true
-  begins = is-record words (λ none. some (is ∙ none))
+  begins = is-record words (λ none. omega (arith, none, unless_zero-some named))
 
   there : Whole words
   there = whole words begins
@@ -41,46 +41,42 @@ module _ (words : List ℕ) (end : ℕ) (is : end ≡ record_words words) (some 
   few = omega (arith, part_count words 7 end inside, long, there.few)
 
   -- what it asks for
-  asked : (d : Described) → d ≡ described_in words → addition_of d (curve_in words) ≡ first_addition words
-  asked d known = ap (λ (k : Described). addition_of k (curve_in words)) known ∙ sym (first-addition words begins)
+  asked : (d : Option Description) → d ≡ described_in words → addition_of d (curve_in words) ≡ first_addition words
+  asked d known = ap (λ (k : Option Description). addition_of k (curve_in words)) known ∙ sym (first-addition words begins)
 
 -- what one call leaves, as a list of calls
 abbrev once : After → Called
 once r = answered r.answer (record { answers = []; left = r.left })
 
-pub returns-then-end-eq0 : goal.returns-then-end-eq0
-returns-then-end-eq0 c =
+pub returns-in_err-end : goal.returns-in_err-end
+returns-in_err-end c =
     let a = c.args in
     let s = buffers a.table.now a.vertices.now a.triangles.now in
-    let none = no_record a.words.now (sym c.record_words-end.ensures ∙ c.if-end-eq0.true) in
-    ap (λ (list : List Call). additions list s) (sym (no-addition a.words.now none))
+    let none = no_record a.words.now (unless_zero-none c.in_err-end.ensures) in
+    rw c.from_residual.ensures (ap (λ (list : List Call). additions list s) (sym (no-addition a.words.now none)))
 
 pub describe-requires : goal.describe-requires
-describe-requires c =
-    (there c.args.words.now c.record_words-end.result c.record_words-end.ensures c.if-end-eq0.false).head
+describe-requires c = (there c.args.words.now c.in_ok-end.end c.in_ok-end.ensures).head
 
-pub slice_bounds-add_body-end : goal.slice_bounds-add_body-end
-slice_bounds-add_body-end c =
-    (inside c.args.words.now c.record_words-end.result c.record_words-end.ensures c.if-end-eq0.false).1
+pub slice_bounds-coordinates-end : goal.slice_bounds-coordinates-end
+slice_bounds-coordinates-end c = (inside c.args.words.now c.in_ok-end.end c.in_ok-end.ensures).1
 
 pub add_body-requires : goal.add_body-requires
-add_body-requires c =
-    few c.args.words.now c.record_words-end.result c.record_words-end.ensures c.if-end-eq0.false
+add_body-requires c = few c.args.words.now c.in_ok-end.end c.in_ok-end.ensures
 
-pub returns-in-Unknown : goal.returns-in-Unknown
-returns-in-Unknown c =
+pub returns-in_err-description : goal.returns-in_err-description
+returns-in_err-description c =
     let a = c.args in
     let s = buffers a.table.now a.vertices.now a.triangles.now in
-    let unknown = sym c.in-Unknown.is ∙ c.describe.ensures in
-    ap (λ (list : List Call). additions list s)
-    (asked a.words.now c.record_words-end.result c.record_words-end.ensures c.if-end-eq0.false _ unknown)
+    rw c.from_residual-in_err-description.ensures
+    (ap (λ (list : List Call). additions list s)
+    (asked a.words.now c.in_ok-end.end c.in_ok-end.ensures None c.in_err-description.ensures))
 
-pub returns-in-Known : goal.returns-in-Known
-returns-in-Known c =
+pub returns : goal.returns
+returns c =
     let a = c.args in
     let s = buffers a.table.now a.vertices.now a.triangles.now in
-    let d = c.in-Known.description in
-    let known = sym c.in-Known.is ∙ c.describe.ensures in
-    ap once (c.add_body.ensures ∙ ap (λ (l : List Float). added (taken d l) s) (curve a.words.now c.record_words-end.result c.record_words-end.ensures c.if-end-eq0.false))
+    let d = c.in_ok-description.description in
+    ap once (c.add_body.ensures ∙ ap (λ (l : List Float). added (taken d l) s) (curve a.words.now c.in_ok-end.end c.in_ok-end.ensures))
     ∙ ap (λ (list : List Call). additions list s)
-    (asked a.words.now c.record_words-end.result c.record_words-end.ensures c.if-end-eq0.false _ known)
+    (asked a.words.now c.in_ok-end.end c.in_ok-end.ensures (Some d) c.in_ok-description.ensures)

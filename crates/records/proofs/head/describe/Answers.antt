@@ -1,8 +1,5 @@
 -- `of_kind` gets the words of the head, two of them as floats. Assumes nothing.
-use mathlib.Core.Path.{◌∙◌}
-use mathlib.Core.Bool.{not}
-use lib.Dec.{eqb}
-use lib.ListN.{get_or}
+use Rattle.std.proofs.Common.{◌∙◌, not, eqb, get_or}
 use Rattle.descriptions.specs.KindNumbers.{described_of}
 use Rattle.records.proofs.head.describe.Goals as goal
 

@@ -1,6 +1,0 @@
--- A read that a signal interrupts takes nothing.
-use Rattle.std.specs.Io.KnownBytes.{Keeps}
-use Rattle.streams.proofs.read_some.Given as goal
-
-abbrev pub invariant-loop : goal.invariant-loop
-invariant-loop g l = Keeps (g.R.Read.remaining l.fn.input) (g.R.Read.remaining l.input)

@@ -1,6 +1,0 @@
--- A write that a signal interrupts adds nothing.
-use Rattle.std.specs.Io.KnownBytes.{Keeps}
-use Rattle.streams.proofs.write_some.Given as goal
-
-abbrev pub invariant-loop : goal.invariant-loop
-invariant-loop g l = Keeps (g.W.Write.contents l.fn.output) (g.W.Write.contents l.output)

@@ -1,0 +1,13 @@
+// A table of the most bodies.
+pub(crate) const TABLE: usize = 1 + 6 * 64;
+
+// The elements of the vertex buffer, and of the triangle buffer.
+pub(crate) const ELEMENTS: usize = 12288;
+
+// A set in buffers of the greatest length that a set uses.
+#[derive(Drop)]
+pub(crate) struct SetBuffers {
+    pub(crate) table: [u32; TABLE],
+    pub(crate) vertices: [f32; ELEMENTS],
+    pub(crate) triangles: [u32; ELEMENTS],
+}
