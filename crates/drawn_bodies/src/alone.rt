@@ -1,74 +1,51 @@
 // Bodies alone.
-ghost use Rattle.std.specs.Prelude.{◌≡◌, length};
-
 use crate::cases::Case;
-use crate::curves::{COORDINATES, fill_curve};
-use descriptions::{Description, Verdict};
-use hex_lines::to_words;
+use crate::curves::COORDINATES;
+use answers::Refusal;
+use descriptions::Counts;
+use float32::to_word;
 
 // The most vertices and the most triangles of a body: three such bodies fit into the buffers.
-const MOST: u64 = 1365;
+const MOST: usize = 1365;
 
 // Room for the coordinates of that many vertices.
-const ELEMENTS: usize = 4095;
+const ELEMENTS: usize = 3 * MOST;
 
-// How many vertices and how many triangles.
+// A body by itself: the bits of its coordinates and its triangles, each at the front of the room
+// for them, and how many vertices and triangles they are. These are arrays with counts beside them,
+// since the programs allocate nothing.
 #[derive(Clone, Copy)]
-pub struct Counts {
-    pub vertices: u32,
-    pub triangles: u32,
+pub struct Alone {
+    pub coordinates: [u32; ELEMENTS],
+    pub triangles: [u32; ELEMENTS],
+    pub counts: Counts,
 }
 
-impl Counts {
-    fn none() -> Counts {
-        Counts {
-            vertices: 0,
-            triangles: 0,
-        }
+impl Case {
+    // Writes the case's body to the fronts of the slices, unless it is refused, and answers how many
+    // vertices and triangles it has.
+    fn write(self, vertices: &mut [f32], triangles: &mut [u32]) -> Result<Counts, Refusal> {
+        let mut space = [0f32; COORDINATES];
+        let description = self.describe();
+        let curve = self.curve(&mut space);
+        let body = bodies::check(description, curve)?;
+        bodies::write_vertices(description, curve, vertices);
+        body.write_triangles(0, triangles);
+        description.counts(curve.len() / 3)
     }
 
-    // The counts, or none where either is above `MOST`.
-    fn of(vertices: u64, triangles: u64) -> Counts {
-        if vertices > MOST {
-            return Counts::none();
-        }
-        if triangles > MOST {
-            return Counts::none();
-        }
-        Counts {
-            vertices: vertices as u32,
-            triangles: triangles as u32,
-        }
-    }
-}
-
-// Writes the body's vertices and its local triangles to the fronts of the slices, and answers how
-// many they are: none where the body is refused. Where a slice is too short nothing is written to
-// it, and the comparison with the set will differ.
-fn write_body(
-    description: Description,
-    curve: &[f32],
-    vertices: &mut [f32],
-    triangles: &mut [u32],
-) -> Counts {
-    match bodies::check(description, curve) {
-        Verdict::Refused(_) => Counts::none(),
-        Verdict::Accepted(body) => {
-            bodies::write_vertices(description, curve, vertices);
-            body.write_triangles(0, triangles);
-            Counts::of(body.vertex_count(), body.triangle_count())
+    // The case's body alone. Where it is refused there is none of it, and where there is too little
+    // room nothing is written: the comparison with the set will differ.
+    pub fn alone(self) -> Alone {
+        let mut vertices = [0f32; ELEMENTS];
+        let mut triangles = [0u32; ELEMENTS];
+        let counts = self
+            .write(&mut vertices, &mut triangles)
+            .unwrap_or_default();
+        Alone {
+            coordinates: vertices.map(|x| to_word(x)),
+            triangles,
+            counts,
         }
     }
-}
-
-// Writes the case's body alone: the bits of its coordinates, and its triangles.
-pub fn write_alone(case: Case, coordinates: &mut [u32], triangles: &mut [u32]) -> Counts
-    requires { 4095 ≡ length coordinates.old }
-{
-    let mut space = [0f32; COORDINATES];
-    let mut vertices = [0f32; ELEMENTS];
-    let end = fill_curve(case, &mut space);
-    let counts = write_body(case.describe(), &space[..end], &mut vertices, triangles);
-    to_words(&vertices, coordinates);
-    counts
 }

@@ -1,59 +1,49 @@
 // Curves that cannot fold, in eighths, so that every sum of coordinates is exact.
-ghost use Rattle.std.specs.Prelude.{◌≡◌, ◌≤◌, length};
-
 use crate::cases::Case;
-use crate::generator::{below, eighths, next};
+use crate::generator::{Generator, eighths};
 
 // Room for the coordinates of any case.
 pub(crate) const COORDINATES: usize = 768;
 
-fn put_vertex(vertex: &mut [f32], x: f32, y: f32, z: f32)
-    requires { 3 ≡ length vertex.old }
-{
-    vertex[0] = x;
-    vertex[1] = y;
-    vertex[2] = z;
-}
-
-// Fills the slice with an open curve: x and y wander, z rises by 1/4 or more at each segment.
-fn fill_open(seed: u32, curve: &mut [f32]) {
-    let mut state = seed;
+// Fills the slice with an open curve: x and y wander, z rises by 1/4 or more at each segment, from
+// what it was, so that a running sum is the plain form.
+fn fill_open(mut generator: Generator, curve: &mut [f32]) {
     let mut z = 0.0f32;
-    for vertex in curve.chunks_exact_mut(3) {
-        let x = next(state);
-        let y = next(x);
-        state = next(y);
-        put_vertex(vertex, eighths(below(x, 16)), eighths(below(y, 16)), z);
-        z = z + eighths(2 + below(state, 8));
+    let (curve, _) = curve.as_chunks_mut::<3>();
+    for vertex in curve {
+        let x = eighths(generator.below(16));
+        let y = eighths(generator.below(16));
+        *vertex = [x, y, z];
+        z += eighths(2 + generator.below(8));
     }
 }
 
-// Fills the slice with a closed curve whose first `vertices` vertices are used. Seen along z it is
-// an arch over its closing segment, which rises less at each vertex; z wanders.
-fn fill_closed(vertices: u8, seed: u32, curve: &mut [f32]) {
-    let mut state = seed;
+// Fills the slice with a closed curve of this number of vertices. Seen along z it is an arch over
+// its closing segment, which rises less at each vertex; z wanders.
+fn fill_closed(vertices: u8, mut generator: Generator, curve: &mut [f32]) {
     let mut x = 0.0f32;
     let mut y = 0.0f32;
     let mut rise = (vertices as f32 - 2.0) * 0.5;
-    for vertex in curve.chunks_exact_mut(3) {
-        state = next(state);
-        put_vertex(vertex, x, y, eighths(below(state, 16)));
-        x = x + 0.5;
-        y = y + rise;
-        rise = rise - 1.0;
+    let (curve, _) = curve.as_chunks_mut::<3>();
+    for vertex in curve {
+        *vertex = [x, y, eighths(generator.below(16))];
+        x += 0.5;
+        y += rise;
+        rise -= 1.0;
     }
 }
 
-// Writes the coordinates of the case's curve to the front of `space`, and answers their number.
-pub(crate) fn fill_curve(case: Case, space: &mut [f32]) -> usize
-    requires { 768 ≡ length space.old }
-    ensures { result ≤ length space.new }
-{
-    let count = 3 * case.vertices as usize;
-    if case.is_closed() {
-        fill_closed(case.vertices, case.seed, space);
-        return count;
+impl Case {
+    // Writes the coordinates of the case's curve to the front of `space`, and answers them.
+    pub(crate) fn curve(self, space: &mut [f32; COORDINATES]) -> &[f32] {
+        let curve = &mut space[..3 * self.vertices as usize];
+        let mut generator = Generator(self.seed);
+        generator.step();
+        if self.is_closed() {
+            fill_closed(self.vertices, generator, curve);
+        } else {
+            fill_open(generator, curve);
+        }
+        curve
     }
-    fill_open(case.seed, space);
-    count
 }

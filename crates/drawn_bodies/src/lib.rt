@@ -8,6 +8,7 @@ mod curves;
 mod generator;
 mod loading;
 
-pub use alone::{Counts, write_alone};
-pub use cases::{Case, Triple, drawn_triple, triple_of_kinds};
+pub use alone::Alone;
+pub use cases::{Case, DrawnTriples, Triple, triple_of_kinds};
+pub use generator::Generator;
 pub use loading::load_triple;

@@ -1,18 +1,14 @@
 // Three bodies side by side in the shared set.
-use crate::cases::{Case, Triple};
-use crate::curves::{COORDINATES, fill_curve};
+use crate::cases::Triple;
+use crate::curves::COORDINATES;
 
-// Adds the body of the case. Where it is refused, word 0 will not be what it should be.
-fn add(case: Case, table: &mut [u32], vertices: &mut [f32], triangles: &mut [u32]) {
-    let mut space = [0f32; COORDINATES];
-    let end = fill_curve(case, &mut space);
-    shared_set::add(case.describe(), &space[..end], table, vertices, triangles);
-}
-
-// Clears the set and adds the three bodies.
+// Clears the set and adds the three bodies. Where one is refused, word 0 will not be what it should
+// be.
 pub fn load_triple(triple: Triple, table: &mut [u32], vertices: &mut [f32], triangles: &mut [u32]) {
-    shared_set::clear(table);
-    add(triple.first, table, vertices, triangles);
-    add(triple.middle, table, vertices, triangles);
-    add(triple.last, table, vertices, triangles);
+    let _ = shared_set::clear(table);
+    for case in triple {
+        let mut space = [0f32; COORDINATES];
+        let curve = case.curve(&mut space);
+        let _ = shared_set::add(case.describe(), curve, table, vertices, triangles);
+    }
 }

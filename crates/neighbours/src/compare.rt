@@ -1,7 +1,7 @@
 // Comparisons, word by word.
 ghost use Rattle.std.specs.Prelude.{◌≡◌, length};
 
-use crate::markers::marker;
+use crate::markers::Pattern;
 use crate::tally::Tally;
 
 fn is_shifted(alone: u32, first: u32, word: u32) -> bool {
@@ -22,9 +22,9 @@ pub(crate) fn compare_words(alone: &[u32], first: u32, set: &[u32]) -> Tally
 }
 
 // Compares the words from place `end` on, where the set ends, with the buffer's pattern.
-pub(crate) fn compare_past(end: usize, start: u32, words: &[u32]) -> Tally {
+pub(crate) fn compare_past(end: usize, pattern: Pattern, words: &[u32]) -> Tally {
     let past = words.iter().enumerate().skip(end);
-    let differing = past.filter(|(place, word)| **word != marker(start, *place));
+    let differing = past.filter(|(place, word)| **word != pattern.word(*place));
     Tally {
         bodies: 0,
         past: words.len().saturating_sub(end) as u64,
@@ -35,5 +35,5 @@ pub(crate) fn compare_past(end: usize, start: u32, words: &[u32]) -> Tally {
 // Compares words of which one is wrong, and a pattern of which one is: two differences. A
 // comparison that finds no difference anywhere shows here.
 pub(crate) fn compare_wrong() -> Tally {
-    compare_words(&[1, 2, 3], 5, &[6, 7, 9]).plus(compare_past(1, 7, &[0, 8, 10]))
+    compare_words(&[1, 2, 3], 5, &[6, 7, 9]) + compare_past(1, Pattern(7), &[0, 8, 10])
 }

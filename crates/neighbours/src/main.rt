@@ -7,15 +7,15 @@
 #![tactic(auto)]
 
 mod compare;
-mod loading;
 mod markers;
 mod placed;
+mod set;
 mod tally;
 
 use crate::compare::compare_wrong;
-use crate::loading::load;
+use crate::set::Set;
 use crate::tally::Tally;
-use drawn_bodies::{drawn_triple, triple_of_kinds};
+use drawn_bodies::{DrawnTriples, Generator, Triple, triple_of_kinds};
 use std::io;
 
 const TRIPLES_OF_KINDS: u32 = 216;
@@ -26,23 +26,9 @@ const DRAWN_TRIPLES: u32 = 400;
 // among which an addition may choose.
 const FIRST_STATE: u32 = 644;
 
-fn load_kinds() -> Tally {
-    let mut sum = Tally::differences(0);
-    for number in 0..TRIPLES_OF_KINDS {
-        sum = sum.plus(load(triple_of_kinds(number)));
-    }
-    sum
-}
-
-fn load_drawn() -> Tally {
-    let mut sum = Tally::differences(0);
-    let mut state = FIRST_STATE;
-    for _ in 0..DRAWN_TRIPLES {
-        let triple = drawn_triple(state);
-        sum = sum.plus(load(triple));
-        state = triple.last.seed;
-    }
-    sum
+// Loads the triple, and compares every element of the buffers.
+fn load(triple: Triple) -> Tally {
+    Set::load(triple).compare(triple)
 }
 
 fn print_line(rt: &impl Print, name: &str, triples: u32, tally: Tally) -> io::Result<()> {
@@ -57,7 +43,9 @@ fn print_line(rt: &impl Print, name: &str, triples: u32, tally: Tally) -> io::Re
 }
 
 fn main(rt: HostRuntime) -> io::Result<()> {
-    print_line(&rt, "kinds", TRIPLES_OF_KINDS, load_kinds())?;
-    print_line(&rt, "drawn", DRAWN_TRIPLES, load_drawn())?;
+    let kinds = (0..TRIPLES_OF_KINDS).map(triple_of_kinds);
+    let drawn = DrawnTriples(Generator(FIRST_STATE)).take(DRAWN_TRIPLES as usize);
+    print_line(&rt, "kinds", TRIPLES_OF_KINDS, kinds.map(load).sum())?;
+    print_line(&rt, "drawn", DRAWN_TRIPLES, drawn.map(load).sum())?;
     print_line(&rt, "wrong", 0, compare_wrong())
 }

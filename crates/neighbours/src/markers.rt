@@ -1,22 +1,27 @@
 // What the buffers hold before anything is loaded: each buffer has its own pattern, with another
 // word at each place.
+use std::array;
 
-// The first word of each buffer's pattern. No word of a table and no index is as large, and the
-// vertices' pattern begins at the bits of 2^23, where no vertex lies.
-pub(crate) const TABLE: u32 = 0x5400_0000;
+// A pattern, by its first word.
+#[derive(Clone, Copy, Debug)]
+pub(crate) struct Pattern(pub u32);
 
-pub(crate) const VERTICES: u32 = 0x4B00_0000;
+// The pattern of each buffer. No word of a table and no index is as large, and the vertices'
+// pattern begins at the bits of 2^23, where no vertex lies.
+pub(crate) const TABLE: Pattern = Pattern(0x5400_0000);
 
-pub(crate) const TRIANGLES: u32 = 0x7100_0000;
+pub(crate) const VERTICES: Pattern = Pattern(0x4B00_0000);
 
-// The word at a place of the pattern that begins with `start`.
-pub(crate) fn marker(start: u32, place: usize) -> u32 {
-    start.wrapping_add((place % 65536) as u32)
-}
+pub(crate) const TRIANGLES: Pattern = Pattern(0x7100_0000);
 
-// Fills the buffer with the pattern that begins with `start`.
-pub(crate) fn mark(start: u32, words: &mut [u32]) {
-    for (place, word) in words.iter_mut().enumerate() {
-        *word = marker(start, place);
+impl Pattern {
+    // The word at a place.
+    pub(crate) fn word(self, place: usize) -> u32 {
+        self.0.wrapping_add((place % 65536) as u32)
+    }
+
+    // A buffer that is filled with the pattern.
+    pub(crate) fn words<const N: usize>(self) -> [u32; N] {
+        array::from_fn(|place| self.word(place))
     }
 }

@@ -1,38 +1,26 @@
 // Each body at its place in the set, compared with the body alone, and what lies past the bodies
 // with what it held before.
-ghost use Rattle.std.specs.Prelude.{◌≡◌, ◌<◌, length};
-
 use crate::compare::{compare_past, compare_words};
 use crate::markers;
+use crate::set::Set;
 use crate::tally::Tally;
-use drawn_bodies::{Case, Counts, Triple, write_alone};
+use descriptions::Counts;
+use drawn_bodies::{Case, Triple};
 
-// Room for the coordinates of a body alone, and for its indices.
-const ELEMENTS: usize = 4095;
+// The words of an entry.
+const ENTRY: usize = 6;
 
-// What was compared of a body, and how many vertices and triangles the set has up to its end.
-#[derive(Clone, Copy)]
-struct Compared {
-    tally: Tally,
-    totals: Counts,
-}
-
-// Compares the entry of body j, whose vertices and triangles come after `first`.
-fn compare_entry(case: Case, j: usize, first: Counts, own: Counts, table: &[u32]) -> Tally
-    requires j_bound { j < 3 }
-    requires table_length { 385 ≡ length table.now }
-{
-    let start = 1 + 6 * j;
-    let end = start + 6;
-    let entry = [
-        case.kind as u32,
+// Compares the entry of a case, whose vertices and triangles come after `first`.
+fn compare_entry(case: Case, first: Counts, own: Counts, entry: &[u32; ENTRY]) -> Tally {
+    let wanted = [
+        case.kind.into(),
         case.entry_divisions(),
         first.vertices,
         own.vertices,
         first.triangles,
         own.triangles,
     ];
-    compare_words(&entry, 0, &table[start..end])
+    compare_words(&wanted, 0, entry)
 }
 
 // Compares the first `count` triples of `alone`, with `shift` added to each word, with those of
@@ -40,81 +28,64 @@ fn compare_entry(case: Case, j: usize, first: Counts, own: Counts, table: &[u32]
 fn compare_stretch(first: u32, count: u32, shift: u32, alone: &[u32], set: &[u32]) -> Tally {
     let start = 3 * first as usize;
     let size = 3 * count as usize;
-    let end = start + size;
-    if size > alone.len() {
-        return Tally::differences(1);
+    match (alone.get(..size), set.get(start..start + size)) {
+        (Some(own), Some(placed)) => compare_words(own, shift, placed),
+        _ => Tally::DIFFERENCE,
     }
-    if end > set.len() {
-        return Tally::differences(1);
-    }
-    compare_words(&alone[..size], shift, &set[start..end])
 }
 
-// Compares body j of the set, whose vertices and triangles come after `first`, with it alone.
-// The totals stay far below 2^32, where they would wrap.
-fn compare_body(
-    first: Counts,
-    j: usize,
-    case: Case,
-    table: &[u32],
-    coordinates: &[u32],
-    triangles: &[u32],
-) -> Compared
-    requires j_bound { j < 3 }
-    requires table_length { 385 ≡ length table.now }
-{
-    let mut shape = [0u32; ELEMENTS];
-    let mut indices = [0u32; ELEMENTS];
-    let own = write_alone(case, &mut shape, &mut indices);
-    let entry = compare_entry(case, j, first, own, table);
-    let vertex = first.vertices;
-    let drawn = compare_stretch(vertex, own.vertices, 0, &shape, coordinates);
-    let joined = compare_stretch(first.triangles, own.triangles, vertex, &indices, triangles);
-    Compared {
-        tally: entry.plus(drawn).plus(joined),
-        totals: Counts {
-            vertices: vertex.wrapping_add(own.vertices),
+impl Set {
+    // Compares the body of a case with it alone: its entry, and its vertices and triangles, which
+    // come after `totals`. Adds theirs to the totals, which stay far below 2^32, where they would
+    // wrap.
+    fn compare_body(&self, case: Case, entry: &[u32; ENTRY], totals: &mut Counts) -> Tally {
+        let first = *totals;
+        let alone = case.alone();
+        let own = alone.counts;
+        *totals = Counts {
+            vertices: first.vertices.wrapping_add(own.vertices),
             triangles: first.triangles.wrapping_add(own.triangles),
-        },
+        };
+        let vertex = first.vertices;
+        compare_entry(case, first, own, entry)
+            + compare_stretch(
+                vertex,
+                own.vertices,
+                0,
+                &alone.coordinates,
+                &self.coordinates,
+            )
+            + compare_stretch(
+                first.triangles,
+                own.triangles,
+                vertex,
+                &alone.triangles,
+                &self.triangles,
+            )
     }
-}
 
-// Compares word 0, and the table past the three entries.
-pub(crate) fn compare_table(table: &[u32]) -> Tally
-    requires { 385 ≡ length table.now }
-{
-    compare_words(&[3], 0, &table[..1]).plus(compare_past(19, markers::TABLE, table))
-}
+    // Compares word 0, and the table past the three entries.
+    fn compare_table(&self) -> Tally {
+        compare_words(&[3], 0, &self.table[..1])
+            + compare_past(1 + 3 * ENTRY, markers::TABLE, &self.table)
+    }
 
-// Compares the buffers past the bodies.
-fn compare_rest(totals: Counts, coordinates: &[u32], triangles: &[u32]) -> Tally {
-    let shape = compare_past(3 * totals.vertices as usize, markers::VERTICES, coordinates);
-    shape.plus(compare_past(3 * totals.triangles as usize, markers::TRIANGLES, triangles))
-}
+    // Compares the buffers past the bodies.
+    fn compare_rest(&self, totals: Counts) -> Tally {
+        let vertices = 3 * totals.vertices as usize;
+        let triangles = 3 * totals.triangles as usize;
+        compare_past(vertices, markers::VERTICES, &self.coordinates)
+            + compare_past(triangles, markers::TRIANGLES, &self.triangles)
+    }
 
-// Compares the three bodies, and the buffers past them.
-pub(crate) fn compare_bodies(
-    triple: Triple,
-    table: &[u32],
-    coordinates: &[u32],
-    triangles: &[u32],
-) -> Tally
-    requires { 385 ≡ length table.now }
-{
-    let none = Counts {
-        vertices: 0,
-        triangles: 0,
-    };
-    let first = compare_body(none, 0, triple.first, table, coordinates, triangles);
-    let middle = compare_body(
-        first.totals,
-        1,
-        triple.middle,
-        table,
-        coordinates,
-        triangles,
-    );
-    let last = compare_body(middle.totals, 2, triple.last, table, coordinates, triangles);
-    let rest = compare_rest(last.totals, coordinates, triangles);
-    first.tally.plus(middle.tally).plus(last.tally).plus(rest)
+    // Compares every element of the buffers.
+    pub(crate) fn compare(&self, triple: Triple) -> Tally {
+        let mut totals = Counts::default();
+        let mut tally = self.compare_table();
+        let (entries, _) = self.table[1..].as_chunks::<ENTRY>();
+        for (entry, case) in entries.iter().zip(triple) {
+            tally = tally + self.compare_body(case, entry, &mut totals);
+        }
+        tally + self.compare_rest(totals)
+    }
 }

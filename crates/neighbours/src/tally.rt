@@ -1,6 +1,9 @@
+use std::iter::Sum;
+use std::ops::Add;
+
 // How many elements of bodies and how many past them were compared, and how many of all these
 // differ.
-#[derive(Clone, Copy)]
+#[derive(Clone, Copy, Debug, Default)]
 pub(crate) struct Tally {
     pub bodies: u64,
     pub past: u64,
@@ -8,21 +11,29 @@ pub(crate) struct Tally {
 }
 
 impl Tally {
-    // Nothing compared, and `count` differences.
-    pub(crate) fn differences(count: u64) -> Tally {
-        Tally {
-            bodies: 0,
-            past: 0,
-            differing: count,
-        }
-    }
+    // Nothing compared, and one difference.
+    pub(crate) const DIFFERENCE: Tally = Tally {
+        bodies: 0,
+        past: 0,
+        differing: 1,
+    };
+}
+
+impl Add for Tally {
+    type Output = Tally;
 
     // The sums of both. They stay far below 2^64, where they would wrap.
-    pub(crate) fn plus(self, more: Tally) -> Tally {
+    fn add(self, more: Tally) -> Tally {
         Tally {
             bodies: self.bodies.wrapping_add(more.bodies),
             past: self.past.wrapping_add(more.past),
             differing: self.differing.wrapping_add(more.differing),
         }
+    }
+}
+
+impl Sum<Tally> for Tally {
+    fn sum<I: Iterator<Item = Tally>>(iter: I) -> Tally {
+        iter.fold(Tally::default(), |sum, more| sum + more)
     }
 }

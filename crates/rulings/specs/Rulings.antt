@@ -18,7 +18,7 @@ use Rattle.kinds.specs.declared.topology.Topology.TheVariants.{Ribbon, Tube, Cap
 use Rattle.curve.specs.Segments.{vertex_of, segment_of}
 use Rattle.curve.specs.Checks.{segment_refused, segments_permitted, folds_permitted}
 use Rattle.answers.specs.Answers.{Answer, refused, accepted}
-use Rattle.descriptions.specs.Answers.{Counts}
+use Rattle.descriptions.specs.declared.counts.Counts.{Counts}
 use Rattle.descriptions.specs.Refusals.{counts_of, checked_of, size_permitted}
 use Rattle.descriptions.specs.declared.description.Description.TheVariants as description
 

@@ -2,46 +2,16 @@
 // the divisions, the longitudes of a capsule or the layers of a closed cylinder, whether a closed
 // cylinder is centred, the width or radius, and the length of a closed cylinder; what a kind lacks
 // is ignored. Answers are document 01's numbers, 0 for what is accepted, and 2^32 − 1 for an
-// unknown kind.
+// unknown kind. The C interface needs both, the sizes one by one and the numbers.
 ghost use Rattle.std.specs.Prelude.{◌≡◌};
 ghost use Rattle.float32.specs.Scan.{all_finite};
 ghost use Rattle.laws.specs.Overwrite.{placed};
-ghost use Rattle.answers.specs.Answers.{number_in};
-ghost use Rattle.descriptions.specs.Answers.{verdict_answer, counted_answer};
 ghost use Rattle.descriptions.specs.KindNumbers.{described_of};
-ghost use Rattle.togbefulo.specs.Face.{check_number, counts_number, counts_in, counts_after, is_drawn};
-ghost use Rattle.togbefulo.specs.Face.{drawn_vertices};
+ghost use Rattle.togbefulo.specs.Face.{check_number, counts_number, counts_after, is_drawn, drawn_vertices};
 
-use descriptions::{Counted, Described, Verdict, of_kind};
-
-pub(crate) const UNKNOWN_KIND: u32 = 0xffff_ffff;
-
-fn number(verdict: Verdict) -> u32
-    ensures { result ≡ number_in (verdict_answer verdict) }
-{
-    match verdict {
-        Verdict::Accepted(_) => 0,
-        Verdict::Refused(why) => why.number(),
-    }
-}
-
-// Writes the counts, if the answer has them, and answers its number.
-fn put_counts(counted: Counted, counts: &mut [u32; 2]) -> u32
-    ensures number { result ≡ number_in (counted_answer counted) }
-    ensures counts_after { counts.new ≡ counts_in (counted_answer counted) counts.old }
-{
-    match counted {
-        Counted::Refused(why) => why.number(),
-        Counted::Counts {
-            vertices,
-            triangles,
-        } => {
-            counts[0] = vertices;
-            counts[1] = triangles;
-            0
-        }
-    }
-}
+use crate::described::{UNKNOWN_KIND, described};
+use crate::words::put;
+use answers::number;
 
 // Writes how many vertices and triangles the body has to `counts`, or refuses the number of curve
 // vertices (10), the divisions (20), the longitudes or layers (21) or a size (22).
@@ -60,10 +30,10 @@ pub extern "C" fn togbefulo_counts(
     ensures counts_after { let d = described_of kind divisions steps centred size length in
         counts.new ≡ counts_after d vertices counts.old }
 {
-    match of_kind(kind, divisions, steps, centred, size, length) {
-        Described::Unknown => UNKNOWN_KIND,
-        Described::Known(description) => put_counts(description.counts(vertices), counts),
-    }
+    let Some(description) = described(kind, divisions, steps, centred, size, length) else {
+        return UNKNOWN_KIND;
+    };
+    put(description.counts(vertices), counts)
 }
 
 // Checks a description and its curve. Refuses what `togbefulo_counts` does (10, 20, 21, 22), then
@@ -80,10 +50,10 @@ pub extern "C" fn togbefulo_check(
 ) -> u32
     ensures { result ≡ check_number (described_of kind divisions steps centred size length) curve.now }
 {
-    match of_kind(kind, divisions, steps, centred, size, length) {
-        Described::Unknown => UNKNOWN_KIND,
-        Described::Known(description) => number(bodies::check(description, curve)),
-    }
+    let Some(description) = described(kind, divisions, steps, centred, size, length) else {
+        return UNKNOWN_KIND;
+    };
+    number(bodies::check(description, curve))
 }
 
 // Writes the body's vertices to the front of `out` and answers true. Answers false and writes
@@ -105,10 +75,10 @@ pub extern "C" fn togbefulo_vertices(
     ensures out_after { let d = described_of kind divisions steps centred size length in
         out.new ≡ placed result (drawn_vertices d curve.now) out.old }
 {
-    match of_kind(kind, divisions, steps, centred, size, length) {
-        Described::Unknown => false,
-        Described::Known(description) => bodies::write_vertices(description, curve, out),
-    }
+    let Some(description) = described(kind, divisions, steps, centred, size, length) else {
+        return false;
+    };
+    bodies::write_vertices(description, curve, out)
 }
 
 // Whether every value is finite.

@@ -3,5 +3,7 @@
 
 mod alone;
 mod arithmetic;
+mod described;
 mod lists;
 mod set;
+mod words;

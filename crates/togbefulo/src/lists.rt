@@ -1,7 +1,8 @@
 // Triangle lists, by the numbers of a body. Each call writes the body's triangles, with `first`
 // added to each index, to the front of `out` and answers true; or it answers false and writes
 // nothing, where the body is not permitted, a vertex would be numbered 2^28 or above, or `out` is
-// too short.
+// too short. The C interface has no enum of bodies, so each kind has a function of its own; all of
+// them go through `Topology::write_triangles`.
 ghost use Rattle.std.specs.Prelude.{◌≡◌, length};
 ghost use Rattle.surface.specs.Triangles.{flatten, shift};
 ghost use Rattle.laws.specs.Overwrite.{placed};

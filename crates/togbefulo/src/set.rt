@@ -5,14 +5,13 @@ ghost use Rattle.answers.specs.Answers.{number_in};
 ghost use Rattle.descriptions.specs.KindNumbers.{described_of};
 ghost use Rattle.set_table.specs.Buffers.{buffers};
 ghost use Rattle.shared_set.specs.Set.{clear_answer, cleared};
-ghost use Rattle.set_file.specs.Answers.{word_answer};
 ghost use Rattle.set_file.specs.File.{file_word_of};
 ghost use Rattle.records.specs.Built.{built_of};
 ghost use Rattle.togbefulo.specs.SetFace.{added_as, word_after};
 
-use crate::alone::UNKNOWN_KIND;
-use descriptions::{Described, of_kind};
-use set_file::FileWord;
+use crate::described::{UNKNOWN_KIND, described};
+use crate::words::put;
+use answers::number;
 
 // Empties the set: sets word 0 of the table to 0. An empty table is refused (1).
 #[unsafe(no_mangle)]
@@ -20,7 +19,7 @@ pub extern "C" fn togbefulo_clear(table: &mut [u32]) -> u32
     ensures number { result ≡ number_in (clear_answer table.old) }
     ensures table_after { table.new ≡ cleared table.old }
 {
-    shared_set::clear(table).number()
+    number(shared_set::clear(table))
 }
 
 // Adds a body to the set. Refuses a damaged table (1), then what `togbefulo_check` does, then a
@@ -47,26 +46,10 @@ pub extern "C" fn togbefulo_add(
         buffers table.new vertices.new triangles.new
         ≡ (added_as d curve.now s).left }
 {
-    match of_kind(kind, divisions, steps, centred, size, length) {
-        Described::Unknown => UNKNOWN_KIND,
-        Described::Known(description) => {
-            shared_set::add(description, curve, table, vertices, triangles).number()
-        }
-    }
-}
-
-// Writes the word, if the answer has one, and answers its number.
-fn put_word(answer: FileWord, word: &mut [u32; 1]) -> u32
-    ensures number { result ≡ number_in (word_answer answer) }
-    ensures word_after { word.new ≡ word_after (word_answer answer) word.old }
-{
-    match answer {
-        FileWord::Refused(why) => why.number(),
-        FileWord::Word(w) => {
-            word[0] = w;
-            0
-        }
-    }
+    let Some(description) = described(kind, divisions, steps, centred, size, length) else {
+        return UNKNOWN_KIND;
+    };
+    number(shared_set::add(description, curve, table, vertices, triangles))
 }
 
 // Writes word `place` of the set's file to `word`. Refuses a damaged table (1) and a place at the
@@ -84,7 +67,7 @@ pub extern "C" fn togbefulo_file_word(
     ensures word_after { let s = buffers table.now vertices.now triangles.now in
         word.new ≡ word_after (file_word_of s place) word.old }
 {
-    put_word(set_file::file_word(table, vertices, triangles, place), word)
+    put(set_file::file_word(table, vertices, triangles, place), word)
 }
 
 // Clears the set and adds the bodies of a list of records. Writes the number that each addition
@@ -106,5 +89,5 @@ pub extern "C" fn togbefulo_build(
         buffers table.new vertices.new triangles.new
         ≡ (built_of records.now answers.old s).left }
 {
-    records::build(records, answers, table, vertices, triangles).number()
+    number(records::build(records, answers, table, vertices, triangles))
 }

@@ -5,65 +5,47 @@
 // program safe and ending.
 #![tactic(auto)]
 
-mod digest;
-mod garbage;
-mod replay;
-mod step;
+mod buffers;
+mod steps;
 
-ghost use Rattle.std.specs.Prelude.{◌≡◌, ◌≤◌, IfOk, length};
-
-use crate::digest::VERTEX_FLOATS;
-use crate::garbage::{fill_floats, fill_words};
-use crate::replay::replay;
+use crate::buffers::Buffers;
+use crate::steps::Steps;
+use answers::number;
+use hex_lines::Words;
 use little_endian::read_words;
-use std::io::{self, Read};
-use streams::{Filled, read_full};
-
-const TABLE_WORDS: usize = 400;
-
-const TRIANGLE_WORDS: usize = 4800;
+use std::io::{self, Read, Write};
+use streams::read_full;
 
 const INPUT_WORDS: usize = 16384;
 
-// Reads the input as words to the front of `words`, and answers how many whole words it has, as far
-// as there is room.
-fn read_input<R: Read>(input: &mut R, words: &mut [u32]) -> io::Result<usize>
-    requires { 16384 ≡ length words.old }
-    ensures { IfOk result (λ count. count ≤ length words.new) }
-{
+// What is printed for a record that is skipped: the output has a number for each step.
+const SKIPPED: u32 = 0xFFFF_FFFF;
+
+// Reads the input as words to the front of `words`, and answers the whole words that it has, as
+// far as there is room.
+fn read_input<'a, R: Read>(
+    input: &mut R,
+    words: &'a mut [u32; INPUT_WORDS],
+) -> io::Result<&'a [u32]> {
     let mut bytes = [0u8; 4 * INPUT_WORDS];
-    let count = match read_full(input, &mut bytes) {
-        Filled::Full => bytes.len(),
-        Filled::Ended(count) => count,
-        Filled::Failed(error) => return Err(error),
-    };
+    let count = read_full(input, &mut bytes)?;
     read_words(&bytes[..count], words);
-    Ok(count / 4)
+    Ok(&words[..count / 4])
 }
 
-// Fills the buffers and clears the table.
-fn prepare(table: &mut [u32], vertices: &mut [f32], triangles: &mut [u32])
-    requires { 2400 ≡ length vertices.old }
-{
-    fill_words(1, table);
-    fill_floats(2, vertices);
-    fill_words(3, triangles);
-    shared_set::clear(table);
+// Does all steps, and writes a line for each: the number that its addition answered, and the digest
+// of what the buffers then hold.
+fn replay<W: Write>(out: &mut W, steps: Steps<'_>) -> io::Result<()> {
+    let mut buffers = Buffers::prepared();
+    for step in steps {
+        let number = buffers.run(step).map_or(SKIPPED, |answer| number(answer));
+        writeln!(out, "{}", Words(&[number, buffers.digest()]))?;
+    }
+    Ok(())
 }
 
 fn main(rt: HostRuntime) -> io::Result<()> {
     let mut words = [0u32; INPUT_WORDS];
-    let mut table = [0u32; TABLE_WORDS];
-    let mut vertices = [0f32; VERTEX_FLOATS];
-    let mut triangles = [0u32; TRIANGLE_WORDS];
-    let count = read_input(&mut rt.stdin(), &mut words)?;
-    prepare(&mut table, &mut vertices, &mut triangles);
-    let mut out = io::writer(&rt);
-    replay(
-        &mut out,
-        &words[..count],
-        &mut table,
-        &mut vertices,
-        &mut triangles,
-    )
+    let steps = Steps(read_input(&mut rt.stdin(), &mut words)?);
+    replay(&mut io::writer(&rt), steps)
 }

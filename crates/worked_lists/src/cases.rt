@@ -1,24 +1,107 @@
 // The cases, the same as in tests/src/cases.rs.
+use kinds::{Capsule, ClosedCylinder, Ribbon, Topology, Torus, Tube};
 
-// Triangle lists: kind, divisions, longitudes, run, first vertex. The kinds are document 01's
-// numbers, sizes that a kind lacks are 0, and the run is the segments of a ribbon, tube or
-// capsule, the curve vertices of a torus, the layers of a closed cylinder.
-pub const LISTS: [[u32; 5]; 14] = [
-    [1, 0, 0, 1, 0],
-    [1, 0, 0, 1, 1000],
-    [1, 0, 0, 3, 1000],
-    [2, 3, 0, 1, 0],
-    [2, 3, 0, 1, 1000],
-    [2, 4, 0, 2, 1000],
-    [3, 3, 1, 1, 0],
-    [3, 3, 0, 3, 1000],
-    [3, 3, 2, 1, 1000],
-    [4, 3, 0, 3, 0],
-    [4, 4, 0, 3, 1000],
-    [5, 3, 0, 1, 0],
-    [5, 4, 0, 2, 1000],
-    [5, 3, 0, 1, 268435448],
+// A body, and the number that its first vertex has.
+#[derive(Clone, Copy)]
+pub(crate) struct Case {
+    pub body: Topology,
+    pub first: u32,
+}
+
+pub(crate) const LISTS: [Case; 14] = [
+    Case {
+        body: Topology::Ribbon(Ribbon { segments: 1 }),
+        first: 0,
+    },
+    Case {
+        body: Topology::Ribbon(Ribbon { segments: 1 }),
+        first: 1000,
+    },
+    Case {
+        body: Topology::Ribbon(Ribbon { segments: 3 }),
+        first: 1000,
+    },
+    Case {
+        body: Topology::Tube(Tube {
+            divisions: 3,
+            segments: 1,
+        }),
+        first: 0,
+    },
+    Case {
+        body: Topology::Tube(Tube {
+            divisions: 3,
+            segments: 1,
+        }),
+        first: 1000,
+    },
+    Case {
+        body: Topology::Tube(Tube {
+            divisions: 4,
+            segments: 2,
+        }),
+        first: 1000,
+    },
+    Case {
+        body: Topology::Capsule(Capsule {
+            divisions: 3,
+            longitudes: 1,
+            segments: 1,
+        }),
+        first: 0,
+    },
+    Case {
+        body: Topology::Capsule(Capsule {
+            divisions: 3,
+            longitudes: 0,
+            segments: 3,
+        }),
+        first: 1000,
+    },
+    Case {
+        body: Topology::Capsule(Capsule {
+            divisions: 3,
+            longitudes: 2,
+            segments: 1,
+        }),
+        first: 1000,
+    },
+    Case {
+        body: Topology::Torus(Torus {
+            divisions: 3,
+            vertices: 3,
+        }),
+        first: 0,
+    },
+    Case {
+        body: Topology::Torus(Torus {
+            divisions: 4,
+            vertices: 3,
+        }),
+        first: 1000,
+    },
+    Case {
+        body: Topology::ClosedCylinder(ClosedCylinder {
+            divisions: 3,
+            layers: 1,
+        }),
+        first: 0,
+    },
+    Case {
+        body: Topology::ClosedCylinder(ClosedCylinder {
+            divisions: 4,
+            layers: 2,
+        }),
+        first: 1000,
+    },
+    Case {
+        body: Topology::ClosedCylinder(ClosedCylinder {
+            divisions: 3,
+            layers: 1,
+        }),
+        first: 268435448,
+    },
 ];
 
 // The indices of the longest list: 24 triangles.
-pub const MOST_INDICES: usize = 72;
+pub(crate) const MOST_INDICES: usize = 72;
