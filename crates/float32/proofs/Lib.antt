@@ -10,3 +10,5 @@ pub mod Tests
 pub mod UnitPatterns
 pub mod RootLaw
 pub mod ZeroCounts
+pub mod ZeroSums
+pub mod BlockScan

@@ -3,3 +3,4 @@ pub mod Root
 pub mod Near
 pub mod Scan
 pub mod Zeros
+pub mod Lanes

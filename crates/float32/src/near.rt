@@ -3,11 +3,15 @@
 ghost use Rattle.std.specs.Prelude.{◌<◌, ◌^◌};
 ghost use Rattle.float32.specs.Near.{Near};
 
-// About 2 ^ 29 + √z, for z from 1 to 4 with a pattern that is t · 2 ^ 29 past that of 1. The
-// pattern of 1 / √z is near a constant less half that of z: so y is near 1 / √z, d is near 1, and
-// a polynomial in d mends s. Added to 2 ^ 29, the last digits of the pattern count steps of
-// 2 ^ -23, and half a step less makes the sum round down. The constants were fitted outside;
-// nothing is promised of them, since `near_root` checks what comes out.
+// Approximates 2 ^ 29 + √z, rounded down to a multiple of 2 ^ -23, where z is the number from 1 to
+// 4 whose bit pattern is that of 1 plus t · 2 ^ 29.
+//
+// A constant minus half the pattern of z is nearly the pattern of 1 / √z, and y is the number with
+// it. So s = z · y is near √z, and d = s · y is near 1: a polynomial in d corrects s. At 2 ^ 29 a
+// float's last digit stands for 2 ^ -23, so the last digits of the sum's pattern count such steps.
+// What is added is half a step less than 2 ^ 29, which makes the sum round down.
+//
+// The constants were fitted outside. Nothing is promised of them: `near_root` checks the result.
 pub(crate) fn guess(t: u64) -> f64
     requires { t < 2 ^ 24 }
 {

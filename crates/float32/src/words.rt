@@ -5,7 +5,7 @@ ghost use Rattle.std.specs.Float.Ieee.{of_bits, to_bits};
 ghost use Rattle.std.specs.Float.Ieee.Scale.{finite};
 
 // Neither an infinity nor a NaN. Two comparisons: by the library's own test, which subtracts,
-// `are_finite` takes a sixth longer.
+// `are_finite` takes a sixth longer for 30 floats.
 pub fn is_finite(x: f32) -> bool
     ensures { result ≡ finite x }
 {

@@ -1,2 +1,1 @@
-mod Chunks
 pub mod RoundTrip

@@ -1,17 +1,17 @@
--- With each value passed, the fold's answer is that of one value more.
-use Rattle.std.proofs.Common.{◌≡◌, refl, sym, ap, ◌∙◌, ◌&&◌, rules}
-use Rattle.std.specs.Float.Ieee.Scale.{finite}
-use Rattle.std.proofs.lemmas.Fn.{fold_over, fronts, slice_gives}
-use Rattle.float32.specs.Scan.{all_finite}
-use Rattle.float32.proofs.Tests.{test-more}
+-- Both answers together are that of the whole slice: the blocks' is looked at where the rest's is
+-- true, and where the rest's is false it does not matter.
+use Rattle.std.proofs.Common.{refl, sym, ◌∙◌}
+use Rattle.float32.proofs.BlockScan.{scanned}
 use Rattle.float32.proofs.scan.are_finite.Goals as goal
 
-pub returns : goal.returns
-unfolding all_finite
-returns c =
-    fold_over fronts (λ y. y.now) _ (λ ys a. a ≡ all_finite ys) _
-    (λ ys a x b f' before call.
-    let one : b ≡ (a && finite x.now) = search rules in
-    (one ∙ ap (λ t. t && finite x.now) before ∙ sym (test-more finite ys x.now), refl))
-    _ _ _ _ (slice_gives c.iter.result) refl c.fold.ensures.ran
-    ∙ ap all_finite c.iter.ensures.rest
+pub returns-else-is_empty : goal.returns-else-is_empty
+returns-else-is_empty c =
+    let cut = c.as_chunks.ensures in
+    let tried = sym c.if-is_each_finite.true ∙ c.is_each_finite.ensures in
+    scanned c.args.values.now cut.front cut.back c.are_blocks_finite.ensures tried
+
+pub returns-else-is_each_finite : goal.returns-else-is_each_finite
+returns-else-is_each_finite c =
+    let cut = c.as_chunks.ensures in
+    let fails = c.if-is_each_finite.false in
+    fails ∙ scanned c.args.values.now cut.front cut.back refl (sym fails ∙ c.is_each_finite.ensures)
