@@ -4,16 +4,16 @@ ghost use Rattle.bodies.specs.Tables.{direction_floats, RunsOnTables, RanOnTable
 
 use descriptions::Shaped;
 
-// The length of the tables for a long curve: of 4,096 segments, the most that a curve may have,
-// with three floats each.
+// How many floats a table has for a long curve: three for each of 4,096 segments, the most that
+// a curve may have.
 const DIRECTION_FLOATS: usize = 12288;
 
-// The length of the tables for a curve of at most 256 vertices: every table is zeroed before it is
-// filled, and a short curve should not wait for that of a long one.
+// How many floats a table has for a curve of at most 256 vertices. Every table is zeroed before it
+// is filled, and a short curve should not wait until a long table is zeroed.
 const FEW_DIRECTION_FLOATS: usize = 768;
 
-// Fills the table of the directions of a curve's segments. A body fills it once: the check for
-// folds (13) and the vertices both read it.
+// Writes the direction of each segment of the curve to the table. This is done once for a body:
+// the check for folds (13) and the writer of the vertices both read the table.
 #[tactic(auto, using(crate::proofs::Corners::directions))]
 fn fill_table(shaped: Shaped<'_>, directions: &mut [f32])
     requires { direction_floats shaped ≤ length directions.old }
@@ -22,9 +22,10 @@ fn fill_table(shaped: Shaped<'_>, directions: &mut [f32])
     shaped.segments().fill_directions(directions);
 }
 
-// Runs `step` on the table of the directions of the curve's segments, on scratch space that is as
-// long, and on `out`. The tables have room for FLOATS floats; the core has no heap. The two and
-// `out` are handed over one by one: a clause knows no old and new of a struct that holds a `&mut`.
+// Fills the table of the directions of the curve's segments, and calls `step` with it, with a
+// second table of the same length as scratch space, and with `out`. Both tables are arrays of
+// FLOATS floats, since the core has no heap. `step` takes the tables and `out` as separate
+// parameters: of a struct that holds a `&mut`, a clause can name no old and new contents.
 fn with_tables_of<
     R,
     F: FnOnce(Shaped<'_>, &[f32], &mut [f32], &mut [f32]) -> R,
@@ -41,7 +42,7 @@ fn with_tables_of<
     step(shaped, &directions, &mut ez, out)
 }
 
-// Does the same, with tables as long as the curve needs.
+// Does the same, with short tables for a short curve and long tables for any other.
 pub(crate) fn with_tables<R, F: FnOnce(Shaped<'_>, &[f32], &mut [f32], &mut [f32]) -> R>(
     shaped: Shaped<'_>,
     out: &mut [f32],

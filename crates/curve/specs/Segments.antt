@@ -1,17 +1,24 @@
 -- A curve's vertices and segments (document 01, 'Triangle lists': "m curve segments"; 'Frames and
 -- vertices'). An open curve has m segments between its m + 1 vertices. A closed one has N segments
 -- between its N vertices; the last is the closing one. Definitions only.
-use Rattle.std.specs.Prelude.{cond, List, ℕ, ◌+◌, ◌*◌, ◌/◌, ltb, Float, length, get_or}
+use Rattle.std.specs.Prelude.{cond, List, ℕ, ◌+◌, ◌-◌, ◌*◌, ◌/◌, ltb, Float, length, get_or}
 use Rattle.std.specs.Float.{nan}
 use Rattle.laws.specs.Blocks.{blocks}
 use Rattle.surface.specs.Grid.{after_of}
 use Rattle.surface.specs.declared.grid.Chain.{Chain}
+use Rattle.surface.specs.declared.grid.Chain.TheVariants.{Open, Closed}
 use Rattle.vec3.specs.Points.{coordinates, difference_of, normalised}
 use Rattle.vec3.specs.declared.points.Point.{Point}
 
 -- how many whole vertices a curve has
 abbrev pub vertices_in : List Float → ℕ
 vertices_in c = length c / 3
+
+-- How many segments a curve of N vertices has: m with m + 1 = N where it is open, N where it is
+-- closed, "with the torus's closing one" (of 12).
+abbrev pub segments_of : Chain → ℕ → ℕ
+segments_of Open N = N - 1
+segments_of Closed N = N
 
 -- the point whose coordinates begin at index p
 abbrev pub point_at : List Float → ℕ → Point

@@ -5,7 +5,7 @@ use vec3::{Frame, Point};
 
 // `vtx2framex` of polyline3 and polyloop3, one segment at a time: a segment's frame, with its
 // direction, which the next step needs again.
-#[derive(Clone, Copy)]
+#[derive(Clone, Copy, Debug)]
 pub struct Carried {
     pub frame: Frame,
     pub direction: Point,

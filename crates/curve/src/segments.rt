@@ -2,7 +2,7 @@ ghost use Rattle.std.specs.Prelude.{◌≡◌, ◌+◌, ◌≤◌, length};
 ghost use Rattle.laws.specs.Overwrite.{overwrite};
 ghost use Rattle.surface.specs.Grid.{after_of};
 ghost use Rattle.vec3.specs.Points.{coordinates};
-ghost use Rattle.curve.specs.Segments.{point_at, vertex_of, segment_of, segment_direction};
+ghost use Rattle.curve.specs.Segments.{vertices_in, segments_of, point_at, vertex_of, segment_of, segment_direction};
 
 use surface::Chain;
 use vec3::Point;
@@ -20,7 +20,10 @@ pub fn point(floats: &[f32], at: usize) -> Point
 }
 
 // Writes the coordinates of `p` to `out`, from index `at` on. These are three stores because rings
-// took three times as long to write with `copy_from_slice` of an array of the three.
+// took three times as long to write with `copy_from_slice` of an array of the three. The index
+// comes with `out` because rings took a quarter longer where callers lent `&mut out[at..]`. Pieces
+// from `as_chunks_mut` cost nothing, but its contract does not say what the slice holds
+// afterwards.
 pub fn put_point(out: &mut [f32], at: usize, p: Point)
     requires { at + 3 ≤ length out.old }
     ensures { out.new ≡ overwrite at (coordinates p) out.old }
@@ -30,7 +33,9 @@ pub fn put_point(out: &mut [f32], at: usize, p: Point)
     out[at + 2] = p.z;
 }
 
-// Vertex k, or NaNs if the curve has no vertex k.
+// Vertex k, or NaNs if the curve has no vertex k. An `Option` would be no plainer: `vertex_of` has
+// a point for every k, so that segments and corners are defined for every k, and no caller asks
+// for a vertex past the end.
 #[tactic(auto, unfolding(crate::specs::Segments::vertex_of))]
 pub fn vertex(curve: &[f32], k: usize) -> Point
     ensures { result ≡ vertex_of curve.now k }
@@ -42,18 +47,47 @@ pub fn vertex(curve: &[f32], k: usize) -> Point
     }
 }
 
+// How many segments a curve of so many vertices has: one fewer where it is open, as many where it
+// is closed.
+pub fn segment_count(chain: Chain, vertices: usize) -> usize
+    ensures { result ≡ segments_of chain vertices }
+{
+    match chain {
+        Chain::Open => vertices.saturating_sub(1),
+        Chain::Closed => vertices,
+    }
+}
+
 // The segments of a lent curve, `count` of them. On an open curve each leads from a vertex to the
 // next; on a closed one the last leads back to the first vertex.
-#[derive(Clone, Copy)]
+#[derive(Clone, Copy, Debug)]
 pub struct Segments<'a> {
     pub chain: Chain,
     pub count: u16,
     pub curve: &'a [f32],
 }
 
+impl<'a> Segments<'a> {
+    // All segments of a curve.
+    pub fn along(chain: Chain, curve: &'a [f32]) -> Segments<'a>
+        requires { vertices_in curve.now ≤ 65535 }
+        ensures chain { result.chain ≡ chain }
+        ensures count { result.count ≡ segments_of chain (vertices_in curve.now) }
+        ensures curve { result.curve ≡ curve.entry }
+    {
+        Segments {
+            chain,
+            count: segment_count(chain, curve.len() / 3) as u16,
+            curve,
+        }
+    }
+}
+
 impl Segments<'_> {
-    // The vertex at which segment k ends, which is also the number of the segment after k. The
-    // remainder is taken only for k past the last segment, which no loop reaches.
+    // The number of the vertex at which segment k ends, and of the segment that begins there. It is
+    // k + 1, or 0 where the last segment of a closed curve leads back to the first vertex. The
+    // definition counts on round the loop for any k. No caller asks past the last segment, so the
+    // cases that need no division come first.
     pub(crate) fn end(self, k: u16) -> usize
         ensures { result ≡ after_of self.entry.chain self.entry.count k }
     {
@@ -71,7 +105,7 @@ impl Segments<'_> {
     pub fn at(self, k: u16) -> Point
         ensures { let s = self.entry in result ≡ segment_of s.chain s.count s.curve.now k }
     {
-        vertex(self.curve, self.end(k)).sub(vertex(self.curve, k as usize))
+        vertex(self.curve, self.end(k)) - vertex(self.curve, k as usize)
     }
 
     // Segment k, normalised.

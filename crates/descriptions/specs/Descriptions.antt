@@ -6,6 +6,7 @@ use Rattle.surface.specs.declared.grid.Chain.{Chain}
 use Rattle.surface.specs.declared.grid.Chain.TheVariants as chain
 use Rattle.kinds.specs.declared.topology.Topology.{Topology}
 use Rattle.kinds.specs.declared.topology.Topology.TheVariants as topology
+use Rattle.curve.specs.Segments.{segments_of}
 use Rattle.descriptions.specs.declared.description.Description.{Description}
 use Rattle.descriptions.specs.declared.description.Description.TheVariants.{Ribbon, Tube, Capsule, Torus}
 use Rattle.descriptions.specs.declared.description.Description.TheVariants.{ClosedCylinder, SeamlessTorus}
@@ -20,12 +21,7 @@ curve_chain (Torus n r) = chain.Closed
 curve_chain (ClosedCylinder n S centred r l) = chain.Open
 curve_chain (SeamlessTorus n r) = chain.Closed
 
--- How many segments a curve of N vertices has: m with m + 1 = N where it is open, N where it is
--- closed, "with the torus's closing one" (of 12).
-abbrev pub segments_of : Chain → ℕ → ℕ
-segments_of chain.Open N = N - 1
-segments_of chain.Closed N = N
-
+-- how many segments the curve has, where it has N vertices
 abbrev pub segment_count : Description → ℕ → ℕ
 segment_count d N = segments_of (curve_chain d) N
 

@@ -129,6 +129,10 @@ counts_tests d N = shape_tests d N ++ (test 22 (sizes_permitted d) ∷ [])
 abbrev pub body_counts : Topology → Counts
 body_counts body = record { vertices = vertex_count body; triangles = triangle_count body }
 
+-- both counts, in the order in which the C interface has them
+abbrev pub count_words : Counts → List ℕ
+count_words k = k.vertices ∷ k.triangles ∷ []
+
 abbrev pub counts_of : Description → ℕ → Answer Counts
 counts_of d N = first_of (counts_tests d N) (body_counts (topology_of d N))
 

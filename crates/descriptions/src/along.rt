@@ -3,7 +3,6 @@ ghost use Rattle.descriptions.specs.Refusals.{vertices_permitted};
 
 use crate::description::Description;
 use kinds::{Capsule, ClosedCylinder};
-use surface::Chain;
 
 // A description, and how many vertices its curve has, which is a permitted number (10).
 #[derive(Clone, Copy, Debug)]
@@ -22,10 +21,7 @@ impl Along {
     pub fn segment_count(self) -> u16
         ensures { result ≡ segment_count self.description self.vertices }
     {
-        match self.description.chain() {
-            Chain::Open => self.vertices.saturating_sub(1) as u16,
-            Chain::Closed => self.vertices as u16,
-        }
+        curve::segment_count(self.description.chain(), self.vertices) as u16
     }
 
     // At how many corners the curve is checked for folds (13): at the end of every segment if

@@ -1,6 +1,6 @@
 ghost use Rattle.std.specs.Prelude.{◌≡◌};
 ghost use Rattle.answers.specs.Answers.{answer_of, first_of};
-ghost use Rattle.descriptions.specs.Refusals.{shape_tests, shape_of, counts_of};
+ghost use Rattle.descriptions.specs.Refusals.{shape_tests, shape_of, counts_of, count_words};
 
 use crate::along::Along;
 use crate::description::Description;
@@ -12,6 +12,15 @@ use kinds::Topology;
 pub struct Counts {
     pub vertices: u32,
     pub triangles: u32,
+}
+
+impl From<Counts> for [u32; 2] {
+    ghost from_gives = { λ counts words. words ≡ count_words counts };
+
+    // The vertices, then the triangles.
+    fn from(counts: Counts) -> [u32; 2] {
+        [counts.vertices, counts.triangles]
+    }
 }
 
 impl Description {

@@ -50,10 +50,6 @@ impl<'a> Shaped<'a> {
         ensures count { result.count ≡ segment_count self.entry.description (length self.entry.curve.now / 3) }
         ensures curve { result.curve ≡ self.entry.curve }
     {
-        Segments {
-            chain: self.description.chain(),
-            count: self.along().segment_count(),
-            curve: self.curve,
-        }
+        Segments::along(self.description.chain(), self.curve)
     }
 }

@@ -6,7 +6,7 @@ use crate::kind::Kind;
 
 // The sizes of a body of any kind. `size` is the width of a ribbon and the radius of the others,
 // `steps` the longitudes of a capsule and the layers of a closed cylinder.
-#[derive(Clone, Copy, Debug)]
+#[derive(Clone, Copy, Debug, Default)]
 pub struct Sizes {
     pub divisions: u32,
     pub steps: u32,

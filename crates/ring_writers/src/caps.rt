@@ -16,7 +16,8 @@ fn write_cap(out: &mut [f32], cap: Cap, turns: &Turns)
         out.new ≡ overwrite 0 rings out.old }
 {
     for j in 0..cap.longitudes {
-        write_ring(out, j as usize * turns.ring_floats(), cap.ring(j), turns);
+        let place = j as usize * turns.ring_floats();
+        write_ring(&mut out[place..], cap.ring(j), turns);
     }
 }
 

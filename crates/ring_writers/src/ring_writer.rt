@@ -1,4 +1,4 @@
-ghost use Rattle.std.specs.Prelude.{◌≡◌, ◌+◌, ◌*◌, ◌≤◌, length};
+ghost use Rattle.std.specs.Prelude.{◌≡◌, ◌*◌, ◌≤◌, length};
 ghost use Rattle.laws.specs.Overwrite.{overwrite};
 ghost use Rattle.laws.specs.Blocks.{blocks};
 ghost use Rattle.vec3.specs.Points.{coordinates};
@@ -10,43 +10,43 @@ use curve::put_point;
 use rings::{Ring, level};
 use vec3::Point;
 
-// Writes four points one after the other, from index `at` on.
+// Writes four points one after the other to the front of `out`.
 #[tactic(auto, using(curve::proofs::Points::unwritten))]
-fn put_four(out: &mut [f32], at: usize, points: [Point; 4])
-    requires { at + 12 ≤ length out.old }
+fn put_four(out: &mut [f32], points: [Point; 4])
+    requires { 12 ≤ length out.old }
     ensures { let four = blocks 4 (λ k. coordinates (point_in points k)) in
-        out.new ≡ overwrite at four out.old }
+        out.new ≡ overwrite 0 four out.old }
 {
     for k in 0..4 {
-        put_point(out, at + 3 * k, points[k]);
+        put_point(out, 3 * k, points[k]);
     }
 }
 
-// Writes a ring from index `at` on. Most of its vertices are written four at a time, which takes
-// the processor less time than one by one.
+// Writes a ring to the front of `out`. Most of its vertices are written four at a time, which
+// takes the processor less time than one by one.
 #[tactic(auto, using(curve::proofs::Points::unwritten))]
-pub fn write_ring(out: &mut [f32], at: usize, ring: Ring, turns: &Turns)
-    requires { at + turns.now * 3 ≤ length out.old }
-    ensures { out.new ≡ overwrite at (ring_of (ring_vertex ring) turns.now) out.old }
+pub fn write_ring(out: &mut [f32], ring: Ring, turns: &Turns)
+    requires { turns.now * 3 ≤ length out.old }
+    ensures { out.new ≡ overwrite 0 (ring_of (ring_vertex ring) turns.now) out.old }
 {
     let n = turns.divisions();
     let fours = n / 4;
     for block in 0..fours {
-        put_four(out, at + 12 * block, turns.four(ring, 4 * block));
+        put_four(&mut out[12 * block..], turns.four(ring, 4 * block));
     }
     for i in 4 * fours..n {
-        put_point(out, at + 3 * i, turns.vertex(ring, i));
+        put_point(out, 3 * i, turns.vertex(ring, i));
     }
 }
 
-// Writes a closed cylinder's ring at height `y`, from index `at` on. It has a loop of its own: one
-// over a closure that gives the vertices would need as many lines for the closure's clauses.
+// Writes a closed cylinder's ring at height `y` to the front of `out`. It has a loop of its own:
+// one over a closure that gives the vertices would need as many lines for the closure's clauses.
 #[tactic(auto, using(curve::proofs::Points::unwritten))]
-pub(crate) fn write_level(out: &mut [f32], at: usize, radius: f32, y: f32, turns: &Turns)
-    requires { at + turns.now * 3 ≤ length out.old }
-    ensures { out.new ≡ overwrite at (ring_of (level_at radius y) turns.now) out.old }
+pub(crate) fn write_level(out: &mut [f32], radius: f32, y: f32, turns: &Turns)
+    requires { turns.now * 3 ≤ length out.old }
+    ensures { out.new ≡ overwrite 0 (ring_of (level_at radius y) turns.now) out.old }
 {
     for i in 0..turns.divisions() {
-        put_point(out, at + 3 * i, level(radius, y, turns.direction(i)));
+        put_point(out, 3 * i, level(radius, y, turns.direction(i)));
     }
 }

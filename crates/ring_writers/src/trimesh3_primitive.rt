@@ -33,7 +33,8 @@ fn write_levels(out: &mut [f32], radius: f32, low: f32, height: f32, layers: u16
     let step = height / layers as f32;
     for g in 0..layers + 1 {
         let y = low + step * g as f32;
-        write_level(out, g as usize * turns.ring_floats(), radius, y, turns);
+        let place = g as usize * turns.ring_floats();
+        write_level(&mut out[place..], radius, y, turns);
     }
 }
 
@@ -42,21 +43,18 @@ pub fn cylinder_closed_end_yup(
     out: &mut [f32],
     radius: f32,
     height: f32,
-    n: u16,
+    turns: &Turns,
     layers: u16,
     centred: bool,
 )
-    requires divisions_permitted { n ≤ 256 }
     requires layers_permitted { layers ≤ 4096 }
-    requires room { (layers + 1) * (n * 3) + 6 ≤ length out.old }
+    requires room { (layers + 1) * (turns.now * 3) + 6 ≤ length out.old }
     ensures { out.new
-        ≡ overwrite 0 (cylinder_vertices radius height n layers centred) out.old }
+        ≡ overwrite 0 (cylinder_vertices radius height turns.now layers centred) out.old }
 {
-    let mut turns = Turns::none();
-    turns.fill(n);
     let low = low(centred, height);
     put_point(out, 0, pole(low));
-    write_levels(&mut out[3..], radius, low, height, layers, &turns);
+    write_levels(&mut out[3..], radius, low, height, layers, turns);
     let above = 3 + (layers as usize + 1) * turns.ring_floats();
     put_point(out, above, pole(low + height));
 }

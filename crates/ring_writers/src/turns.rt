@@ -10,10 +10,12 @@ use vec3::{Direction, Point, turn};
 // The most vertices that a ring has.
 const MOST_DIVISIONS: usize = 256;
 
-// The directions round a ring of `divisions` vertices: the cosine of each and its sine, three times
-// each, so that a vertex multiplies point by point. A body fills this table once, for all its
-// rings. In a contract it is the number of its divisions, from which all else follows.
-#[derive(Drop)]
+// The directions round a ring of `divisions` vertices: the cosine of each and its sine, three
+// times each, so that a vertex multiplies point by point. A body fills this table once, for all
+// its rings. In a contract it is the number of its divisions, from which all else follows. Two
+// arrays and not one of pairs: four cosines stand in memory as three full vectors, and so do four
+// sines. From an array of pairs a ring took 1.28 to 1.34 times as long to write.
+#[derive(Debug, Drop)]
 pub struct Turns {
     cosines: [Point; MOST_DIVISIONS],
     sines: [Point; MOST_DIVISIONS],

@@ -4,7 +4,7 @@ ghost use Rattle.rings.specs.Axes.{axes_at, between_of};
 use vec3::{Frame, Point};
 
 // A vertex of a curve and the axes there: ex beside the curve, ez along it, ey across both.
-#[derive(Clone, Copy)]
+#[derive(Clone, Copy, Debug)]
 pub struct Axes {
     pub origin: Point,
     pub ex: Point,
@@ -34,5 +34,5 @@ impl Axes {
 pub fn framez(u: Point, w: Point) -> Point
     ensures { result ≡ between_of u w }
 {
-    u.add(w).normalize()
+    (u + w).normalize()
 }

@@ -8,7 +8,7 @@ use surface::End;
 use vec3::{Point, turn};
 
 // One of a capsule's two caps: at which end it is, the axes there, and how many rings it has.
-#[derive(Clone, Copy)]
+#[derive(Clone, Copy, Debug)]
 pub struct Cap {
     pub end: End,
     pub axes: Axes,
@@ -39,7 +39,7 @@ impl Cap {
                 (Order::ExFirst, t, radius * t.sin)
             }
         };
-        let centre = axes.origin.add(axes.ez.scale(along));
+        let centre = axes.origin + axes.ez * along;
         Ring::around(order, axes, centre, radius * t.cos)
     }
 
@@ -49,10 +49,10 @@ impl Cap {
         ensures { result ≡ cap_pole self.end self.axes self.radius }
     {
         let Axes { origin, ez, .. } = self.axes;
-        let along = ez.scale(self.radius);
+        let along = ez * self.radius;
         match self.end {
-            End::Bottom => origin.sub(along),
-            End::Top => origin.add(along),
+            End::Bottom => origin - along,
+            End::Top => origin + along,
         }
     }
 }

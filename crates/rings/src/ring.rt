@@ -15,7 +15,7 @@ pub enum Order {
 }
 
 // A ring of vertices.
-#[derive(Clone, Copy)]
+#[derive(Clone, Copy, Debug)]
 pub struct Ring {
     pub order: Order,
     pub centre: Point,
@@ -40,29 +40,25 @@ impl Ring {
         }
     }
 
-    // Adds two terms to the centre, one after the other. A term is an axis by the radius by a
-    // cosine or a sine. These come as points that hold them three times, because the processor
-    // then works out the coordinates of several vertices alike, several at a time.
+    // Adds two terms to the centre, `first` before `second`. A term is an axis times the product
+    // of the radius and a cosine or a sine. `a` and `b` hold the cosine and the sine, each of them
+    // three times, so that every coordinate takes the same steps: the processor then works out
+    // several coordinates, of several vertices, at a time.
     #[tactic(auto, unfolding(crate::specs::Rings::two_terms))]
     fn two_terms(self, first: Point, a: Point, second: Point, b: Point) -> Point
         ensures { result ≡ two_terms self first a second b }
     {
         let r = Point::thrice(self.radius);
-        self.centre
-            .add(first.product(r.product(a)))
-            .add(second.product(r.product(b)))
+        self.centre + first.product(r.product(a)) + second.product(r.product(b))
     }
 
+    // Adds ex times the cosine and ey times the sine, multiplies the sum by the radius, and adds
+    // that to the centre. `cos` and `sin` each hold their number three times, as in `two_terms`.
     #[tactic(auto, unfolding(crate::specs::Rings::sum_first))]
     fn sum_first(self, cos: Point, sin: Point) -> Point
         ensures { result ≡ sum_first self cos sin }
     {
-        self.centre.add(
-            self.ex
-                .product(cos)
-                .add(self.ey.product(sin))
-                .scale(self.radius),
-        )
+        self.centre + (self.ex.product(cos) + self.ey.product(sin)) * self.radius
     }
 
     // The vertex in a direction.

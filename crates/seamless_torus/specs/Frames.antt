@@ -10,7 +10,7 @@ use Rattle.curve.specs.Segments.{point_at}
 use Rattle.curve.specs.Framex.{carried_of, carried_to}
 use Rattle.curve.specs.declared.framex.Carried.{Carried}
 use Rattle.swept_bodies.specs.Polyloop3.{vtx2framex}
-use Rattle.seamless_torus.specs.declared.frames.Ends.{Ends}
+use Rattle.twists.specs.declared.ends.Ends.{Ends}
 
 -- the frames that are carried along the `count` segments of a curve
 abbrev pub frames_in : Chain → ℕ → List Float → List Float

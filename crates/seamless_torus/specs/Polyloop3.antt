@@ -12,7 +12,7 @@ use Rattle.swept_bodies.specs.Polyloop3.{vtx2framex, torus_ring}
 use Rattle.twists.specs.Twists.{share_of, twisted_frame, scores_finite}
 use Rattle.twists.specs.Chosen.{chosen_twist}
 use Rattle.twists.specs.declared.twist.Twist.{Twist}
-use Rattle.seamless_torus.specs.declared.frames.Ends.{Ends}
+use Rattle.twists.specs.declared.ends.Ends.{Ends}
 
 -- "The last frame is transported across vertex 0."
 unfoldable pub across_start : ℕ → List Float → Frame

@@ -5,11 +5,11 @@ ghost use Rattle.seamless_torus.specs.Frames.{frames_in, ends_at};
 
 use curve::{Carried, put_point};
 use swept_bodies::Spine;
+use twists::Ends;
 use vec3::{Frame, Point};
 
 // Writes the frames that are carried along a curve's segments, one after the other, to the front of
 // `frames`, and answers what is carried on the last segment.
-#[tactic(auto, using(curve::proofs::Points::unwritten))]
 pub(crate) fn fill_frames(spine: &Spine, frames: &mut [f32]) -> Carried
     requires { spine.now.segments.count * 3 ≤ length frames.old }
     ensures carried { let s = spine.now.segments in
@@ -17,21 +17,12 @@ pub(crate) fn fill_frames(spine: &Spine, frames: &mut [f32]) -> Carried
     ensures written { let s = spine.now.segments in
         frames.new ≡ overwrite 0 (frames_in s.chain s.count s.curve.now) frames.old }
 {
-    let mut carried = spine.first();
-    put_point(frames, 0, carried.frame.ex);
-    for g in 1..spine.segments.count as usize {
-        carried = spine.next(g, carried);
-        put_point(frames, g * 3, carried.frame.ex);
-    }
-    carried
-}
-
-// The last frame against the first, where a loop closes: the cosine and the sine of the angle
-// between them, times their lengths.
-#[derive(Clone, Copy)]
-pub(crate) struct Ends {
-    pub c0: f32,
-    pub s0: f32,
+    let first = spine.first();
+    put_point(frames, 0, first.frame.ex);
+    let rest = &mut frames[3..];
+    spine.walk(first, rest, 3, |_, carried, out| {
+        put_point(out, 0, carried.frame.ex);
+    })
 }
 
 // Carries the last frame across vertex 0, onto the first segment, which lies along `u`, and takes

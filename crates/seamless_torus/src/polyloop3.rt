@@ -11,6 +11,7 @@ use crate::frames::{ends_at, fill_frames};
 use curve::point;
 use ring_writers::Turns;
 use rings::Axes;
+use surface::Chain;
 use swept_bodies::{Spine, Sweep};
 use twists::{Found, Twist, search, twisted};
 use vec3::Frame;
@@ -27,8 +28,7 @@ fn find_twist(spine: &Spine, frames: &mut [f32]) -> Found
     let first = Frame {
         ex: point(frames, 0),
     };
-    let at = ends_at(last, spine.direction(0), first);
-    search(at.c0, at.s0)
+    search(ends_at(last, spine.direction(0), first))
 }
 
 // Writes the rings at all vertices of the loop, from the table of the frames that were carried
@@ -54,7 +54,7 @@ fn write_rings(out: &mut [f32], sweep: &Sweep, frames: &[f32], twist: Twist)
         };
         let ez = spine.direction(k);
         let frame = twisted(carried, ez, twist.share(g, count));
-        sweep.write_ring(out, k * size, Axes::at(spine.vertex(k), frame, ez));
+        sweep.write_ring(&mut out[k * size..], Axes::at(spine.vertex(k), frame, ez));
     }
 }
 
@@ -66,31 +66,29 @@ fn drawn_radius(radius: f32, finite: bool) -> f32
     if finite { radius } else { f32::NAN }
 }
 
-// Writes the vertices of a seamless torus to the front of `out`. `frames` is scratch space.
+// Writes the vertices of a seamless torus to the front of `out`. `frames` is scratch space. Why it
+// takes no `Spine` stands at `write_open` of swept_bodies.
 pub fn to_trimesh3_seamless_torus(
     out: &mut [f32],
     curve: &[f32],
     directions: &[f32],
     frames: &mut [f32],
-    n: u16,
+    turns: &Turns,
     r: f32,
 )
     requires closed_curve { ClosedCurve curve.now directions.now }
     requires frames_room { vertices_in curve.now * 3 ≤ length frames.old }
-    requires divisions_permitted { n ≤ 256 }
-    requires room { vertices_in curve.now * (n * 3) ≤ length out.old }
+    requires room { vertices_in curve.now * (turns.now * 3) ≤ length out.old }
     ensures { let c = curve.now in
         let N = vertices_in c in
         out.new
-        ≡ overwrite 0 (seamless_vertices (twist_of N c) n (drawn_radius r (ends_finite N c)) N c) out.old }
+        ≡ overwrite 0 (seamless_vertices (twist_of N c) turns.now (drawn_radius r (ends_finite N c)) N c) out.old }
 {
-    let spine = Spine::closed(curve, directions);
+    let spine = Spine::along(Chain::Closed, curve, directions);
     let found = find_twist(&spine, frames);
-    let mut turns = Turns::none();
-    turns.fill(n);
     let sweep = Sweep {
         spine,
-        turns: &turns,
+        turns,
         radius: drawn_radius(r, found.finite),
     };
     write_rings(out, &sweep, frames, found.twist);

@@ -1,4 +1,5 @@
 pub mod Tables
+pub mod Walks
 pub mod Polyline3
 pub mod Polyloop3
 pub mod Capsule

@@ -5,7 +5,7 @@ use Rattle.std.specs.Prelude.{◌≡◌, List, ℕ, ◌-◌, ◌*◌, ◌≤◌,
 use Rattle.surface.specs.declared.grid.Chain.{Chain}
 use Rattle.surface.specs.declared.grid.Chain.TheVariants.{Open, Closed}
 use Rattle.vec3.specs.declared.points.Point.{Point}
-use Rattle.curve.specs.Segments.{vertices_in, point_at, segment_direction}
+use Rattle.curve.specs.Segments.{vertices_in, segments_of, point_at, segment_direction}
 use Rattle.rings.specs.Axes.{between_of}
 
 -- the directions of a curve's segments
@@ -15,15 +15,16 @@ pub record DirectionTable (chain : Chain) (count : ℕ) (c table : List Float) :
 
 -- What the writers ask of a curve and its table: a segment at least, and no more vertices than are
 -- permitted ("vertices outside 2 to 4,096 (torus 3 to 4,096 ..)", document 01, of 10).
-pub record OpenCurve (c directions : List Float) : Type 0 where
-  pub segment : 1 ≤ vertices_in c - 1
+pub record SweptCurve (chain : Chain) (c directions : List Float) : Type 0 where
+  pub segment : 1 ≤ segments_of chain (vertices_in c)
   pub most : vertices_in c ≤ 4096
-  pub table : DirectionTable Open (vertices_in c - 1) c directions
+  pub table : DirectionTable chain (segments_of chain (vertices_in c)) c directions
 
-pub record ClosedCurve (c directions : List Float) : Type 0 where
-  pub segment : 1 ≤ vertices_in c
-  pub most : vertices_in c ≤ 4096
-  pub table : DirectionTable Closed (vertices_in c) c directions
+abbrev pub OpenCurve : List Float → List Float → Type 0
+OpenCurve c directions = SweptCurve Open c directions
+
+abbrev pub ClosedCurve : List Float → List Float → Type 0
+ClosedCurve c directions = SweptCurve Closed c directions
 
 -- ez at vertex g between two segments: on an open curve "inside the normalised sum of the two
 -- normalised segments", on a loop "the segment leaving the vertex"

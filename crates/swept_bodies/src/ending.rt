@@ -12,7 +12,7 @@ use surface::End;
 
 // What stands at the two ends of a body, before and behind the rings at the vertices between two
 // segments.
-#[derive(Clone, Copy)]
+#[derive(Clone, Copy, Debug)]
 pub(crate) enum Ending {
     // a tube: a ring at each end
     Rings,
@@ -43,7 +43,7 @@ impl Ending {
     {
         match (self, end) {
             (Ending::Joined, End::Top) => {}
-            (Ending::Rings | Ending::Joined, _) => sweep.write_ring(out, 0, axes),
+            (Ending::Rings | Ending::Joined, _) => sweep.write_ring(out, axes),
             (Ending::Caps { longitudes }, _) => {
                 let cap = Cap {
                     end,
@@ -58,7 +58,6 @@ impl Ending {
 
     // Writes a body with these ends to the front of `out`: its first end, the rings at the vertices
     // between two segments, its last end. `ez` is the table of ez at those vertices.
-    #[tactic(auto, using(curve::proofs::Points::unwritten))]
     pub(crate) fn write_swept(self, out: &mut [f32], sweep: &Sweep, ez: &[f32])
         requires ez_table { let s = sweep.now.spine.segments in EzTable s.chain s.count s.curve.now ez.now }
         requires room { swept_floats self (sweep.now.turns.now * 3) sweep.now.spine.segments.count ≤ length out.old }
@@ -72,14 +71,14 @@ impl Ending {
         let m = spine.segments.count as usize;
         let size = sweep.turns.ring_floats();
         let inner = self.first_floats(size);
-        let mut carried = spine.first();
-        self.write(End::Bottom, out, &sweep, spine.axes_on(0, carried));
-        for g in 1..m {
-            carried = spine.next(g, carried);
+        let first = spine.first();
+        self.write(End::Bottom, out, &sweep, spine.axes_on(0, first));
+        let rest = &mut out[inner..];
+        let last = spine.walk(first, rest, size, |g, carried, out| {
             let axes = Axes::at(spine.vertex(g), carried.frame, point(ez, g * 3));
-            sweep.write_ring(out, inner + (g - 1) * size, axes);
-        }
-        let last = &mut out[inner + (m - 1) * size..];
-        self.write(End::Top, last, &sweep, spine.axes_on(m, carried));
+            sweep.write_ring(out, axes);
+        });
+        let top = &mut out[inner + (m - 1) * size..];
+        self.write(End::Top, top, &sweep, spine.axes_on(m, last));
     }
 }

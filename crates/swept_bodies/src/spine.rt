@@ -1,9 +1,10 @@
 ghost use Rattle.std.specs.Prelude.{◌≡◌, ◌-◌, ◌*◌, ◌≤◌, ◌<◌, length};
-ghost use Rattle.surface.specs.declared.grid.Chain.TheVariants.{Open, Closed};
-ghost use Rattle.curve.specs.Segments.{vertices_in, vertex_of, segment_direction};
+ghost use Rattle.surface.specs.declared.grid.Chain.TheVariants.{Open};
+ghost use Rattle.curve.specs.Segments.{vertices_in, segments_of, vertex_of, segment_direction};
 ghost use Rattle.curve.specs.Framex.{carried_of};
 ghost use Rattle.swept_bodies.specs.Swept.{axes_on};
-ghost use Rattle.swept_bodies.specs.Tables.{DirectionTable, OpenCurve, ClosedCurve, EzTable};
+ghost use Rattle.swept_bodies.specs.Walks.{MayWrite, Written};
+ghost use Rattle.swept_bodies.specs.Tables.{DirectionTable, SweptCurve, EzTable};
 
 use curve::{Carried, Segments, point, put_point};
 use rings::{Axes, framez};
@@ -11,7 +12,7 @@ use surface::Chain;
 use vec3::Point;
 
 // The segments of a curve along which a body lies, one at least, and the table of their directions.
-#[derive(Clone, Copy)]
+#[derive(Clone, Copy, Debug)]
 pub struct Spine<'a> {
     pub segments: Segments<'a>,
     pub directions: &'a [f32],
@@ -20,38 +21,15 @@ pub struct Spine<'a> {
 }
 
 impl<'a> Spine<'a> {
-    // An open curve, whose segments are one fewer than its vertices.
-    pub(crate) fn open(curve: &'a [f32], directions: &'a [f32]) -> Self
-        requires { OpenCurve curve.now directions.now }
-        ensures chain { result.segments.chain ≡ Open }
-        ensures count { result.segments.count ≡ vertices_in curve.now - 1 }
+    // All segments of a curve, with their directions.
+    pub fn along(chain: Chain, curve: &'a [f32], directions: &'a [f32]) -> Self
+        requires { SweptCurve chain curve.now directions.now }
+        ensures chain { result.segments.chain ≡ chain }
+        ensures count { result.segments.count ≡ segments_of chain (vertices_in curve.now) }
         ensures same { result.segments.curve.now ≡ curve.now }
     {
-        let segments = Segments {
-            chain: Chain::Open,
-            count: (curve.len() / 3 - 1) as u16,
-            curve,
-        };
         Spine {
-            segments,
-            directions,
-        }
-    }
-
-    // A loop, whose segments are as many as its vertices.
-    pub fn closed(curve: &'a [f32], directions: &'a [f32]) -> Self
-        requires { ClosedCurve curve.now directions.now }
-        ensures chain { result.segments.chain ≡ Closed }
-        ensures count { result.segments.count ≡ vertices_in curve.now }
-        ensures same { result.segments.curve.now ≡ curve.now }
-    {
-        let segments = Segments {
-            chain: Chain::Closed,
-            count: (curve.len() / 3) as u16,
-            curve,
-        };
-        Spine {
-            segments,
+            segments: Segments::along(chain, curve),
             directions,
         }
     }
@@ -79,16 +57,31 @@ impl<'a> Spine<'a> {
         Carried::first(self.direction(0))
     }
 
-    // What is carried on segment `k`, from what is carried on the one before it. Nowhere else are
-    // frames carried along a curve.
-    #[tactic(auto, using(crate::proofs::Axes::carried_after))]
-    pub fn next(&self, k: usize, before: Carried) -> Carried
-        requires inner { 1 ≤ k }
-        requires within { k < self.now.segments.count }
-        requires carried { let s = self.now.segments in before ≡ carried_of s.chain s.count s.curve.now (k - 1) }
-        ensures { let s = self.now.segments in result ≡ carried_of s.chain s.count s.curve.now k }
+    // Carries the frame from the first segment, where `first` is carried, to the last, and answers
+    // what is carried there. On each segment after the first it calls `write` with the segment's
+    // number, what is carried on it, and what is left of `out`: each segment has `size` floats.
+    // Nowhere else are frames carried along a curve.
+    #[tactic(auto, using(curve::proofs::Points::unwritten, crate::proofs::Axes::carried_after))]
+    pub fn walk<F: Fn(usize, Carried, &mut [f32])>(
+        &self,
+        first: Carried,
+        out: &mut [f32],
+        size: usize,
+        write: F,
+    ) -> Carried
+        requires first { let s = self.now.segments in first ≡ carried_of s.chain s.count s.curve.now 0 }
+        requires room { (self.now.segments.count - 1) * size ≤ length out.old }
+        requires write { MayWrite self.now.segments size (F.pre write) }
+        ensures carried { let s = self.now.segments in
+            result ≡ carried_of s.chain s.count s.curve.now (s.count - 1) }
+        ensures written { let s = self.now.segments in Written s s.count size out.old out.new (F.post write) }
     {
-        before.next(self.direction(k))
+        let mut carried = first;
+        for g in 1..self.segments.count as usize {
+            carried = carried.next(self.direction(g));
+            write(g, carried, &mut out[(g - 1) * size..]);
+        }
+        carried
     }
 
     // The axes at vertex `k`, with ez along the segment that the frame has been carried to: at the

@@ -1,4 +1,4 @@
-ghost use Rattle.std.specs.Prelude.{◌≡◌, ◌+◌, ◌*◌, ◌≤◌, length};
+ghost use Rattle.std.specs.Prelude.{◌≡◌, ◌*◌, ◌≤◌, length};
 ghost use Rattle.laws.specs.Overwrite.{overwrite};
 ghost use Rattle.swept_bodies.specs.Swept.{order_of, ring_about};
 
@@ -8,7 +8,7 @@ use rings::{Axes, Order, Ring};
 use surface::Chain;
 
 // What all rings along one curve share: the curve, the directions round a ring, and its radius.
-#[derive(Clone, Copy)]
+#[derive(Clone, Copy, Debug)]
 pub struct Sweep<'a> {
     pub spine: Spine<'a>,
     pub turns: &'a Turns,
@@ -26,14 +26,14 @@ impl Sweep<'_> {
         }
     }
 
-    // Writes the ring about `axes` from index `at` on.
+    // Writes the ring about `axes` to the front of `out`.
     #[tactic(auto, using(crate::proofs::Parts::ring_made))]
-    pub fn write_ring(&self, out: &mut [f32], at: usize, axes: Axes)
-        requires { at + self.now.turns.now * 3 ≤ length out.old }
+    pub fn write_ring(&self, out: &mut [f32], axes: Axes)
+        requires { self.now.turns.now * 3 ≤ length out.old }
         ensures { let ring = ring_about self.now.spine.segments.chain self.now.turns.now self.now.radius axes in
-            out.new ≡ overwrite at ring out.old }
+            out.new ≡ overwrite 0 ring out.old }
     {
         let ring = Ring::around(self.order(), axes, axes.origin, self.radius);
-        write_ring(out, at, ring, self.turns);
+        write_ring(out, ring, self.turns);
     }
 }

@@ -67,7 +67,7 @@ pub octant-sums : (c0 s0 a b : Float) (o octant : ℕ) (xs ys out : List Float) 
     → Tabulates 513 (λ i. x (eighth_of i)) xs
     → Tabulates 513 (λ i. y (eighth_of i)) ys
     → ((d : Direction) → plus (times a (x d)) (times b (y d)) ≡ dot_with c0 s0 (in_octant o d.cos d.sin))
-    → Tabulates 512 (product_sum a b (is_odd o) xs ys) out
+    → Tabulates 512 (λ j. product_sum a b xs ys (entry_at (is_odd o) j)) out
     → Tabulates 512 (forward_score c0 s0 octant) out
 octant-sums c0 s0 a b o octant xs ys out x y h is reads-x reads_y same sums j l =
     let e = entry_at (is_odd o) j in

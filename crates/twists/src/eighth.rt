@@ -8,7 +8,7 @@ pub(crate) const EIGHTH: usize = 513;
 // The cosines and the sines of these angles. Every direction of k/4096 turn is one of these pairs,
 // with its numbers exchanged or negated. Two arrays and not one of pairs, since the scores are
 // sums over one number of each pair, several at a time.
-#[derive(Clone, Copy)]
+#[derive(Clone, Copy, Debug)]
 pub(crate) struct Eighth<'a> {
     pub cos: &'a [f32; EIGHTH],
     pub sin: &'a [f32; EIGHTH],
@@ -16,7 +16,7 @@ pub(crate) struct Eighth<'a> {
     ghost sines: { Tabulates 513 sine_at sin.now },
 }
 
-// Works the tables out where they lie, so that none is copied.
+// Fills both tables in place, so that none is copied.
 pub(crate) fn fill_eighth(cos: &mut [f32; EIGHTH], sin: &mut [f32; EIGHTH])
     ensures cosines { Tabulates 513 cosine_at cos.new }
     ensures sines { Tabulates 513 sine_at sin.new }

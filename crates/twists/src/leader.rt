@@ -5,8 +5,8 @@ ghost use Rattle.laws.specs.Every.{every};
 
 use crate::scores::OCTANT;
 
-// Whether no score is above `most`. It looks at all of them: without a way out the loop runs
-// several at a time.
+// Whether no score is above `most`. It looks at all of them: a loop without an early exit is
+// compiled to test several at a time.
 fn is_none_above(scores: &[f32], most: f32) -> bool
     ensures { let list = scores.now in
         result ≡ every (length list) (λ i. not (lt most (get_or list i nan))) }
@@ -17,7 +17,7 @@ fn is_none_above(scores: &[f32], most: f32) -> bool
 }
 
 // The place and the score of the best twist so far.
-#[derive(Clone, Copy)]
+#[derive(Clone, Copy, Debug)]
 pub(crate) struct Leader {
     pub place: u16,
     pub score: f32,
@@ -26,7 +26,7 @@ pub(crate) struct Leader {
 impl Leader {
     ghost use Rattle.twists.specs.Leaders.{led_by};
 
-    // The leader after the scores of the places from `base` on were tried one by one.
+    // The leader after the scores of the places from `base` on, tried one by one.
     fn after_each(self, base: u16, scores: &[f32]) -> Leader
         requires { base + length scores.now ≤ 4096 }
         ensures { result ≡ led_by scores.now base (length scores.now) self }
@@ -43,18 +43,17 @@ impl Leader {
         leader
     }
 
-    // The same of 512 scores, in blocks of 32: a block without a score above the leader's changes
-    // nothing, and most blocks are such.
+    // The same for 512 scores, in blocks of 32. A block without a score above the leader's is
+    // skipped, since it changes nothing, and most blocks are such.
     pub(crate) fn after(self, base: u16, scores: &[f32; OCTANT]) -> Leader
         requires { base + 512 ≤ 4096 }
         ensures { result ≡ led_by scores.now base (length scores.now) self }
     {
         let mut leader = self;
-        for block in 0..16usize {
-            let at = 32 * block;
-            let tried = &scores[at..at + 32];
-            if !is_none_above(tried, leader.score) {
-                leader = leader.after_each(base + at as u16, tried);
+        let (blocks, _) = scores.as_chunks::<32>();
+        for (i, block) in blocks.iter().enumerate() {
+            if !is_none_above(block, leader.score) {
+                leader = leader.after_each(base + 32 * i as u16, block);
             }
         }
         leader

@@ -4,9 +4,11 @@
 
 mod best;
 mod eighth;
+mod ends;
 mod leader;
 mod scores;
 mod twist;
 
 pub use best::{Found, search};
+pub use ends::Ends;
 pub use twist::{Twist, twisted};

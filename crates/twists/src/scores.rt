@@ -1,71 +1,70 @@
-ghost use Rattle.std.specs.Prelude.{◌≡◌, ◌*◌, ◌<◌};
-ghost use Rattle.twists.specs.Eighth.{Tabulates, entry_at};
+ghost use Rattle.std.specs.Prelude.{◌≡◌, ℕ, ◌*◌, ◌<◌};
+ghost use Rattle.twists.specs.Eighth.{Tabulates, TabulatesAt};
 ghost use Rattle.twists.specs.Scores.{product_sum, forward_score, place_score};
 
 use crate::eighth::{EIGHTH, Eighth};
+use crate::ends::Ends;
 use crate::twist::Twist;
 
 // How many scores are worked out at a time: those of the steps in an octant.
 pub(crate) const OCTANT: usize = 512;
 
-// The entry of the table of an eighth that step `j` of an octant has: even octants run forwards
-// from the octant's start, odd ones backwards from its end.
-fn entry_at(odd: bool, j: usize) -> usize
-    requires { j < 512 }
-    ensures { result ≡ entry_at odd j }
-{
-    if odd {
-        return 512 - j;
-    }
-    j
-}
-
-// Writes a·x + b·y for each step of an octant, x and y being its entries of two tables.
-fn fill_sums(
+// Writes a·x + b·y for each step of an octant. x and y stand in two tables at the index that
+// `entry` gives for the step.
+fn fill_sums<F: Fn(usize) -> usize>(
     a: f32,
     b: f32,
-    odd: bool,
+    entry: F,
     xs: &[f32; EIGHTH],
     ys: &[f32; EIGHTH],
     out: &mut [f32; OCTANT],
 )
-    ensures { Tabulates 512 (product_sum a b odd xs.now ys.now) out.new }
+    requires callable { (j : ℕ) → j < 512 → F.pre entry j }
+    requires within { (j i : ℕ) → j < 512 → F.post entry j i → i < 513 }
+    ensures { TabulatesAt 512 (F.post entry) (product_sum a b xs.now ys.now) out.new }
 {
     for j in 0..OCTANT {
-        let entry = entry_at(odd, j);
-        out[j] = a * xs[entry] + b * ys[entry];
+        let i = entry(j);
+        out[j] = a * xs[i] + b * ys[i];
     }
 }
 
 impl Eighth<'_> {
-    // Writes the scores of the steps in an octant of the first half turn. An octant stays a
+    // Writes the scores of the 512 steps in an octant of the first half turn. Even octants go
+    // through the table of an eighth forwards, odd ones backwards from its end. An octant stays a
     // number, since its steps begin at 512 times it.
-    fn fill_octant(&self, c0: f32, s0: f32, octant: u16, out: &mut [f32; OCTANT])
+    fn fill_octant(&self, ends: Ends, octant: u16, out: &mut [f32; OCTANT])
         requires { octant < 4 }
-        ensures { Tabulates 512 (forward_score c0 s0 octant) out.new }
+        ensures { Tabulates 512 (forward_score ends.c0 ends.s0 octant) out.new }
     {
+        let Ends { c0, s0 } = ends;
         match octant {
-            0 => fill_sums(c0, s0, false, self.cos, self.sin, out),
-            1 => fill_sums(c0, s0, true, self.sin, self.cos, out),
-            2 => fill_sums(-c0, s0, false, self.sin, self.cos, out),
-            _ => fill_sums(-c0, s0, true, self.cos, self.sin, out),
+            0 => fill_sums(c0, s0, |j| j, self.cos, self.sin, out),
+            1 => fill_sums(c0, s0, |j| 512 - j, self.sin, self.cos, out),
+            2 => fill_sums(-c0, s0, |j| j, self.sin, self.cos, out),
+            _ => fill_sums(-c0, s0, |j| 512 - j, self.cos, self.sin, out),
         }
     }
 
-    // Writes the scores of the places 512·part to 512·part + 511: the steps of an octant, forward
-    // in the first four parts, backward in the others. Backward steps begin with 1, and in the
-    // place of their step 0 stands forward step 2048. A part stays a number, as an octant does.
-    pub(crate) fn fill_scores(&self, c0: f32, s0: f32, part: u16, out: &mut [f32; OCTANT])
+    // Writes the scores of the 512 places from 512·part on. Parts 0 to 3 are the forward steps 0 to
+    // 2047, an octant each. Parts 4 to 7 are the backward steps 0 to 2047, which score as the
+    // forward ones do with `s0` negated. Backward step 0 would be forward step 0 again, so its
+    // place has forward step 2048, half a turn, instead. A part stays a number, as an octant does.
+    pub(crate) fn fill_scores(&self, ends: Ends, part: u16, out: &mut [f32; OCTANT])
         requires { part < 8 }
-        ensures { Tabulates 512 (place_score c0 s0 (512 * part)) out.new }
+        ensures { Tabulates 512 (place_score ends.c0 ends.s0 (512 * part)) out.new }
     {
         if part < 4 {
-            self.fill_octant(c0, s0, part, out);
+            self.fill_octant(ends, part, out);
             return;
         }
-        self.fill_octant(c0, -s0, part - 4, out);
+        let mirrored = Ends {
+            s0: -ends.s0,
+            ..ends
+        };
+        self.fill_octant(mirrored, part - 4, out);
         if part == 4 {
-            out[0] = Twist::forward(2048).score(c0, s0);
+            out[0] = Twist::forward(2048).score(ends);
         }
     }
 }

@@ -1,12 +1,13 @@
 ghost use Rattle.std.specs.Prelude.{◌≡◌};
 ghost use Rattle.twists.specs.Twists.{signed, twisted_frame, twist_at};
 
+use crate::ends::Ends;
 use vec3::{Direction, Frame, Point, turn};
 
 // The twist of k/4096 turn: `steps` is the magnitude of k, and `backward` says that k is negative.
 // Not one signed number: the direction of k is that of its magnitude, with the sine's sign changed
 // for a negative k.
-#[derive(Clone, Copy)]
+#[derive(Clone, Copy, Debug)]
 pub struct Twist {
     pub steps: u16,
     pub backward: bool,
@@ -50,14 +51,13 @@ impl Twist {
         }
     }
 
-    // The score of the twist: how far it turns the first frame towards the last, which came back
-    // at the cosine `c0` and the sine `s0` of an angle.
+    // The score of the twist: how far it turns the first frame towards the last.
     #[tactic(auto, unfolding(crate::specs::Twists::score_of, crate::specs::Twists::twist_direction))]
-    pub(crate) fn score(self, c0: f32, s0: f32) -> f32
-        ensures { result ≡ score_of c0 s0 self }
+    pub(crate) fn score(self, ends: Ends) -> f32
+        ensures { result ≡ score_of ends.c0 ends.s0 self }
     {
         let d = signed(self.backward, turn(self.steps as u32, 4096));
-        c0 * d.cos + s0 * d.sin
+        ends.c0 * d.cos + ends.s0 * d.sin
     }
 
     // The share of the twist at vertex `j` of a loop of `vertices`: k·j/(4096·vertices) turn.
@@ -78,6 +78,6 @@ pub fn twisted(frame: Frame, u: Point, share: Direction) -> Frame
 {
     let ex = frame.ex;
     Frame {
-        ex: ex.scale(share.sin).add(u.cross(ex).scale(share.cos)),
+        ex: ex * share.sin + u.cross(ex) * share.cos,
     }
 }

@@ -4,7 +4,7 @@ ghost use Rattle.vec3.specs.Frames.{perpendicular_to, frame_beside, first_frame,
 use crate::points::Point;
 
 // The frame at a vertex of a curve: the axis beside the segment.
-#[derive(Clone, Copy)]
+#[derive(Clone, Copy, Debug)]
 pub struct Frame {
     pub ex: Point,
 }
@@ -57,10 +57,7 @@ impl Frame {
         let c = u.dot(w);
         let q = u.cross(w);
         Frame {
-            ex: b
-                .scale(c)
-                .add(q.cross(b))
-                .add(q.scale(q.dot(b) / (1.0 + c))),
+            ex: b * c + q.cross(b) + q * (q.dot(b) / (1.0 + c)),
         }
     }
 }

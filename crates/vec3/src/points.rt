@@ -2,8 +2,10 @@ ghost use Rattle.std.specs.Prelude.{◌≡◌};
 ghost use Rattle.vec3.specs.Points.{thrice, sum_of, difference_of, scaled, product_of, quotient_of};
 ghost use Rattle.vec3.specs.Points.{dot_of, cross_of, norm_of, normalised};
 
+use std::ops::{Add, Div, Mul, Sub};
+
 // A vertex, a segment's direction or a frame's axis.
-#[derive(Clone, Copy)]
+#[derive(Clone, Copy, Debug)]
 pub struct Point {
     pub x: f32,
     pub y: f32,
@@ -19,43 +21,8 @@ impl Point {
         Point { x: k, y: k, z: k }
     }
 
-    // Component by component.
-    #[tactic(auto, unfolding(crate::specs::Points::sum_of))]
-    pub fn add(self, b: Point) -> Point
-        ensures { result ≡ sum_of self b }
-    {
-        Point {
-            x: self.x + b.x,
-            y: self.y + b.y,
-            z: self.z + b.z,
-        }
-    }
-
-    // Component by component.
-    #[tactic(auto, unfolding(crate::specs::Points::difference_of))]
-    pub fn sub(self, b: Point) -> Point
-        ensures { result ≡ difference_of self b }
-    {
-        Point {
-            x: self.x - b.x,
-            y: self.y - b.y,
-            z: self.z - b.z,
-        }
-    }
-
-    // Each component times k.
-    #[tactic(auto, unfolding(crate::specs::Points::scaled))]
-    pub fn scale(self, k: f32) -> Point
-        ensures { result ≡ scaled self k }
-    {
-        Point {
-            x: self.x * k,
-            y: self.y * k,
-            z: self.z * k,
-        }
-    }
-
-    // Component by component.
+    // Component by component. It is no operator, since `a * b` of two points could as well mean
+    // their dot or their cross product.
     #[tactic(auto, unfolding(crate::specs::Points::product_of))]
     pub fn product(self, b: Point) -> Point
         ensures { result ≡ product_of self b }
@@ -64,18 +31,6 @@ impl Point {
             x: self.x * b.x,
             y: self.y * b.y,
             z: self.z * b.z,
-        }
-    }
-
-    // Each component by k.
-    #[tactic(auto, unfolding(crate::specs::Points::quotient_of))]
-    pub fn divide(self, k: f32) -> Point
-        ensures { result ≡ quotient_of self k }
-    {
-        Point {
-            x: self.x / k,
-            y: self.y / k,
-            z: self.z / k,
         }
     }
 
@@ -112,6 +67,70 @@ impl Point {
     pub fn normalize(self) -> Point
         ensures { result ≡ normalised self }
     {
-        self.divide(self.norm())
+        self / self.norm()
+    }
+}
+
+impl Add for Point {
+    type Output = Point;
+
+    ghost add_gives = { λ a b r. r ≡ sum_of a b };
+
+    // Component by component.
+    #[tactic(auto, unfolding(crate::specs::Points::sum_of))]
+    fn add(self, b: Point) -> Point {
+        Point {
+            x: self.x + b.x,
+            y: self.y + b.y,
+            z: self.z + b.z,
+        }
+    }
+}
+
+impl Sub for Point {
+    type Output = Point;
+
+    ghost sub_gives = { λ a b r. r ≡ difference_of a b };
+
+    // Component by component.
+    #[tactic(auto, unfolding(crate::specs::Points::difference_of))]
+    fn sub(self, b: Point) -> Point {
+        Point {
+            x: self.x - b.x,
+            y: self.y - b.y,
+            z: self.z - b.z,
+        }
+    }
+}
+
+impl Mul<f32> for Point {
+    type Output = Point;
+
+    ghost mul_gives = { λ a k r. r ≡ scaled a k };
+
+    // Each component times k.
+    #[tactic(auto, unfolding(crate::specs::Points::scaled))]
+    fn mul(self, k: f32) -> Point {
+        Point {
+            x: self.x * k,
+            y: self.y * k,
+            z: self.z * k,
+        }
+    }
+}
+
+impl Div<f32> for Point {
+    type Output = Point;
+
+    ghost div_gives = { λ a k r. r ≡ quotient_of a k };
+
+    // Each component divided by k.
+    #[tactic(auto, unfolding(crate::specs::Points::quotient_of))]
+    fn div(self, k: f32) -> Point {
+        Point {
+            x: self.x / k,
+            y: self.y / k,
+            z: self.z / k,
+        }
     }
 }

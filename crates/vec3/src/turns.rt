@@ -2,7 +2,7 @@ ghost use Rattle.std.specs.Prelude.{◌≡◌, ◌<◌, ◌≤◌};
 ghost use Rattle.vec3.specs.Turns.{part_of, sine_of, cosine_of, within_octant, in_octant, direction_of, turn_of};
 
 // The cosine and the sine of an angle.
-#[derive(Clone, Copy)]
+#[derive(Clone, Copy, Debug)]
 pub struct Direction {
     pub cos: f32,
     pub sin: f32,

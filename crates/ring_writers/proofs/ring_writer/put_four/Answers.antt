@@ -8,4 +8,4 @@ pub loop-k-preserved : goal.loop-k-preserved
 loop-k-preserved c =
     let l = c.loop-k in
     let a = c.args in
-    point_written a.at l.k (point_in a.points) a.out.now l.invariant (omega arith) c.put_point.ensures refl
+    point_written 0 l.k (point_in a.points) a.out.now l.invariant (omega arith) c.put_point.ensures refl

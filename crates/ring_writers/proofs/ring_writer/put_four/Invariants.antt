@@ -7,4 +7,4 @@ use Rattle.rings.specs.Rings.{point_in}
 use Rattle.ring_writers.proofs.ring_writer.put_four.Given as goal
 
 abbrev pub invariant-loop-k : goal.invariant-loop-k
-invariant-loop-k l = l.out ≡ overwrite l.at (blocks l.k (λ k. coordinates (point_in l.fn.points k))) l.initial.out
+invariant-loop-k l = l.out ≡ overwrite 0 (blocks l.k (λ k. coordinates (point_in l.fn.points k))) l.initial.out

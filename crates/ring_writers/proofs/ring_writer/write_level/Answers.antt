@@ -9,6 +9,6 @@ pub loop-i-preserved : goal.loop-i-preserved
 loop-i-preserved c =
     let l = c.loop-i in
     let a = c.args in
-    point_written a.at l.i (λ (k : ℕ). level_at a.radius a.y (turn_of k a.turns.now)) a.out.now l.invariant (omega arith)
+    point_written 0 l.i (λ (k : ℕ). level_at a.radius a.y (turn_of k a.turns.now)) a.out.now l.invariant (omega arith)
     c.put_point.ensures
     (c.level.ensures ∙ ap (level_at a.radius a.y) c.direction.ensures)

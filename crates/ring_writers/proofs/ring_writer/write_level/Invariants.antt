@@ -7,4 +7,4 @@ use Rattle.ring_writers.proofs.ring_writer.write_level.Given as goal
 
 abbrev pub invariant-loop-i : goal.invariant-loop-i
 invariant-loop-i l =
-    l.out ≡ overwrite l.at (blocks l.i (vertex_on (level_at l.radius l.y) l.turns)) l.initial.out
+    l.out ≡ overwrite 0 (blocks l.i (vertex_on (level_at l.radius l.y) l.turns)) l.initial.out

@@ -8,7 +8,7 @@ use Rattle.ring_writers.proofs.ring_writer.write_ring.Given as goal
 
 abbrev pub invariant-loop-block : goal.invariant-loop-block
 invariant-loop-block l =
-    l.out ≡ overwrite l.at (blocks (4 * l.block) (vertex_on (ring_vertex l.ring) l.turns)) l.initial.out
+    l.out ≡ overwrite 0 (blocks (4 * l.block) (vertex_on (ring_vertex l.ring) l.turns)) l.initial.out
 
 abbrev pub invariant-loop-i : goal.invariant-loop-i
-invariant-loop-i l = l.out ≡ overwrite l.at (blocks l.i (vertex_on (ring_vertex l.ring) l.turns)) l.fn.out
+invariant-loop-i l = l.out ≡ overwrite 0 (blocks l.i (vertex_on (ring_vertex l.ring) l.turns)) l.fn.out

@@ -1,18 +1,18 @@
 -- Pole, rings and pole, each written after the one before. Assumes nothing.
-use Rattle.std.proofs.Common.{refl, sym, ap, ◌∙◌, List, ◌++◌, ℕ, ◌+◌, Float}
+use Rattle.std.proofs.Common.{refl, sym, ap, ◌∙◌, List, ◌++◌, ◌+◌, Float}
 use Rattle.laws.specs.Overwrite.{overwrite}
 use Rattle.laws.proofs.Overwrite.{written_behind}
 use Rattle.laws.proofs.Lent.{lent-from}
 use Rattle.vec3.specs.Points.{coordinates, plus}
 use Rattle.rings.specs.Vertices.{level_vertex, pole}
-use Rattle.ring_writers.specs.ClosedCylinder.{cylinder_rings, cylinder_vertices}
+use Rattle.ring_writers.specs.ClosedCylinder.{cylinder_rings}
 use Rattle.ring_writers.proofs.Lengths.{length-rings, cylinder-parts}
 use Rattle.ring_writers.proofs.trimesh3_primitive.cylinder_closed_end_yup.Goals as goal
 
 pub returns : goal.returns
 returns c =
     let a = c.args in
-    let n = c.fill.new.self in
+    let n = a.turns.now in
     let low = c.low-low in
     let rings = cylinder_rings a.radius low.result a.height a.layers n in
     let bottom = coordinates (pole low.result) in
@@ -28,4 +28,3 @@ returns c =
     a.out.now) low.ensures
     ∙ ap (λ (l : List Float). overwrite 0 l a.out.now)
     (sym (cylinder-parts a.radius a.height n a.layers a.centred))
-    ∙ ap (λ (k : ℕ). overwrite 0 (cylinder_vertices a.radius a.height k a.layers a.centred) a.out.now) c.fill.ensures

@@ -6,7 +6,7 @@ use Rattle.surface.specs.declared.grid.Chain.{Chain}
 use Rattle.curve.specs.Segments.{segment_direction}
 use Rattle.curve.specs.Framex.{carried_of}
 use Rattle.twists.specs.Chosen.{found_for}
-use Rattle.seamless_torus.specs.declared.frames.Ends.{Ends}
+use Rattle.twists.specs.declared.ends.Ends.{Ends}
 use Rattle.seamless_torus.specs.Frames.{frames_in, ends_at}
 use Rattle.seamless_torus.proofs.Tables.{written-frames, ends-of-loop}
 use Rattle.seamless_torus.proofs.polyloop3.find_twist.Goals as goal
@@ -23,7 +23,7 @@ returns c =
     let last = filled.carried ∙ ap (λ (chain : Chain). carried_of chain N curve (N - 1)) on in
     let along = c.direction.ensures ∙ ap (λ (chain : Chain). segment_direction chain N curve 0) on in
     let first = c.point.ensures ∙ frames.frame 0 s.segment in
-    let ends = c.ends_at-at.ensures ∙ (λ i. ends_at (last i) (along i) (record { ex = first i }))
+    let ends = c.ends_at.ensures ∙ (λ i. ends_at (last i) (along i) (record { ex = first i }))
     ∙ ends-of-loop N curve in
     record {
       found = c.search.ensures ∙ ap (λ (e : Ends). found_for e.c0 e.s0) ends;

@@ -2,6 +2,7 @@
 -- carried one of the table, turned by its share of the twist. Assumes nothing.
 use Rattle.std.proofs.Common.{◌≡◌, sym, ap, ◌∙◌, ℕ, ◌*◌, arith}
 use Rattle.laws.proofs.Blocks.{one_more, all-written}
+use Rattle.laws.proofs.Lent.{lent-from}
 use Rattle.laws.proofs.Products.{row_within}
 use Rattle.surface.specs.declared.grid.Chain.{Chain}
 use Rattle.curve.specs.Segments.{segment_direction}
@@ -49,7 +50,9 @@ loop-g-preserved c =
     one_more 0 g c.ring_floats-size.result (ring_on s a.twist) a.out.now
     (λ k h. length-ring (torus_vertex (axes_of N curve (frame k) k) s.radius) n ∙ sym c.ring_floats-size.ensures.same)
     c.loop-g.invariant (omega arith)
-    c.write_ring.ensures (λ i. ring_about (c.requires.on_loop i) n s.radius (axes i))
+    (lent-from (g * c.ring_floats-size.result) (ring_about s.spine.segments.chain n s.radius c.at.result) c.loop-g.out
+    c.write_ring.ensures)
+    (λ i. ring_about (c.requires.on_loop i) n s.radius (axes i))
 
 pub returns : goal.returns
 returns c =

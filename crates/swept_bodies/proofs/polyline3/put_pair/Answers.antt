@@ -8,7 +8,7 @@ use Rattle.swept_bodies.proofs.polyline3.put_pair.Goals as goal
 pub returns : goal.returns
 returns c =
     let a = c.args in
-    written_behind a.at (coordinates a.p) (coordinates c.add.result) a.out.now c.put_point.ensures refl
+    written_behind 0 (coordinates a.p) (coordinates c.add.result) a.out.now c.put_point.ensures refl
     c.put_point-2.ensures
-    ∙ ap (λ x. overwrite a.at (coordinates a.p ++ coordinates x) a.out.now)
-    (c.add.ensures ∙ ap (sum_of a.p) c.scale.ensures)
+    ∙ ap (λ x. overwrite 0 (coordinates a.p ++ coordinates x) a.out.now)
+    (c.add.ensures ∙ ap (sum_of a.p) c.mul.ensures)

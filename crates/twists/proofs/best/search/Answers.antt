@@ -30,18 +30,18 @@ pub loop-part-preserved : goal.loop-part-preserved
 loop-part-preserved c =
     let l = c.loop-part in
     let v = l.invariant in
-    let a = c.args in
+    let e = c.args.ends in
     let m = 512 * l.part in
     let scores = c.fill_scores.new.out in
     let sized : length scores ≡ 512 = omega arith in
     let more : m + 512 ≡ 512 * (l.part + 1) = omega arith in
     record {
       sized = sized;
-      led = led-more a.c0 a.s0 m scores l.leader c.after-leader.result sized c.fill_scores.ensures v.led
-          c.after-leader.ensures ∙ ap (leader_at a.c0 a.s0) more;
-      told = finite-block a.c0 a.s0 m scores sized c.fill_scores.ensures v.told
+      led = led-more e.c0 e.s0 m scores l.leader c.after-leader.result sized c.fill_scores.ensures v.led
+          c.after-leader.ensures ∙ ap (leader_at e.c0 e.s0) more;
+      told = finite-block e.c0 e.s0 m scores sized c.fill_scores.ensures v.told
           (ap (λ (b : Bool). l.finite && b) c.are_finite-finite.ensures)
-          ∙ ap (finite_at a.c0 a.s0) more;
+          ∙ ap (finite_at e.c0 e.s0) more;
     }
 
 pub returns : goal.returns
@@ -49,5 +49,6 @@ unfolding found_for chosen_twist scores_finite
 returns c =
     let v = c.loop-part.invariant in
     let all : 512 * c.loop-part.part ≡ 4096 = omega arith in
+    let e = c.args.ends in
     let twist = c.twist_at.ensures ∙ ap (λ (b : Leader). twist_at b.place) v.led in
-    (λ i. record { twist = twist i; finite = v.told i }) ∙ ap (found_at c.args.c0 c.args.s0) all
+    (λ i. record { twist = twist i; finite = v.told i }) ∙ ap (found_at e.c0 e.s0) all

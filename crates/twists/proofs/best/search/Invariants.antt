@@ -8,6 +8,6 @@ use Rattle.twists.proofs.best.search.Given as goal
 abbrev pub invariant-loop-part : goal.invariant-loop-part
 invariant-loop-part l = record {
   sized : length l.scores ≡ 512;
-  led : l.leader ≡ leader_at l.c0 l.s0 (512 * l.part);
-  told : l.finite ≡ finite_at l.c0 l.s0 (512 * l.part);
+  led : l.leader ≡ leader_at l.ends.c0 l.ends.s0 (512 * l.part);
+  told : l.finite ≡ finite_at l.ends.c0 l.ends.s0 (512 * l.part);
 }
