@@ -14,7 +14,7 @@ const ELEMENTS: usize = 3 * MOST;
 // A body by itself: the bits of its coordinates and its triangles, each at the front of the room
 // for them, and how many vertices and triangles they are. These are arrays with counts beside them,
 // since the programs allocate nothing.
-#[derive(Clone, Copy)]
+#[derive(Clone, Copy, Debug)]
 pub struct Alone {
     pub coordinates: [u32; ELEMENTS],
     pub triangles: [u32; ELEMENTS],

@@ -7,7 +7,10 @@ use std::array;
 
 // A body in small numbers: its kind, its width, radius and length in eighths, the number of
 // vertices of its curve and the seed from which the curve is drawn. `steps` are the longitudes of
-// a capsule and the layers of a closed cylinder. A field that a kind does not have is ignored.
+// a capsule and the layers of a closed cylinder. A field that a kind does not have is ignored: one
+// struct serves all kinds, as a record does. A case that held a `Description` would get its fields
+// back through `Description::new`, which is among what is tested, and the entry of a body could not
+// be compared with what was drawn.
 #[derive(Clone, Copy, Debug)]
 pub struct Case {
     pub kind: Kind,
@@ -48,9 +51,23 @@ impl Case {
         )
     }
 
-    // Whether its curve is closed: that of a torus, with or without a seam.
+    // Whether its curve is closed: that of a torus, with or without a seam. This and the next two
+    // say again what `Description` and `From<Kind>` say: those are tested, and neither the curve
+    // that is drawn nor the kind and n that an entry must have may come from them.
     pub(crate) fn is_closed(self) -> bool {
         matches!(self.kind, Kind::Torus | Kind::SeamlessTorus)
+    }
+
+    // The kind's number in the body's entry.
+    pub fn entry_kind(self) -> u32 {
+        match self.kind {
+            Kind::Ribbon => 1,
+            Kind::Tube => 2,
+            Kind::Capsule => 3,
+            Kind::Torus => 4,
+            Kind::ClosedCylinder => 5,
+            Kind::SeamlessTorus => 6,
+        }
     }
 
     // The n of the body's entry: 0 for a ribbon.

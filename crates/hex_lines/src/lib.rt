@@ -22,10 +22,9 @@ impl fmt::Display for Words<'_> {
     }
 }
 
-// Writes the first `count` triples of the words, a line for each: the vertices or the triangles
-// that they are.
-pub fn write_triples<W: Write>(out: &mut W, words: &[u32], count: usize) -> io::Result<()> {
-    for triple in words.chunks_exact(3).take(count) {
+// Writes the words of each triple on a line of its own: the vertices or the triangles that they are.
+pub fn write_triples<W: Write>(out: &mut W, triples: &[[u32; 3]]) -> io::Result<()> {
+    for triple in triples {
         writeln!(out, "{}", Words(triple))?;
     }
     Ok(())

@@ -23,9 +23,11 @@ pub enum Topology {
     ClosedCylinder(ClosedCylinder),
 }
 
-// Each question is a match of its own: the gate refuses a function that hands out the kind as a
-// `dyn Body`, of which all could be asked.
+// Each question is a match of its own. One match for all of them would hand out a `dyn Body`.
+// There is none, since `Body` has `Copy` as a supertrait; and without it the gate would refuse a
+// function that makes a `dyn` and hands it out.
 impl Topology {
+    // Whether each of its numbers is within its kind's limits.
     pub fn is_permitted(self) -> bool
         ensures { result ≡ permitted self }
     {
@@ -51,6 +53,7 @@ impl Topology {
         }
     }
 
+    // How many vertices the body has.
     #[tactic(auto, using(crate::proofs::AsSurface::same_vertices))]
     pub fn vertex_count(self) -> u64
         ensures { result ≡ vertex_count self }
@@ -58,6 +61,7 @@ impl Topology {
         self.surface().vertex_count()
     }
 
+    // How many triangles its list has.
     #[tactic(auto, using(crate::proofs::AsSurface::same_triangles))]
     pub fn triangle_count(self) -> u64
         ensures { result ≡ triangle_count self }

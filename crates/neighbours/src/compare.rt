@@ -4,6 +4,7 @@ ghost use Rattle.std.specs.Prelude.{◌≡◌, length};
 use crate::markers::Pattern;
 use crate::tally::Tally;
 
+// Whether `word` is `alone` with `first` added, where the sum is not cut to 32 bits.
 fn is_shifted(alone: u32, first: u32, word: u32) -> bool {
     alone as u64 + first as u64 == word as u64
 }

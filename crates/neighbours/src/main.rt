@@ -31,6 +31,7 @@ fn load(triple: Triple) -> Tally {
     Set::load(triple).compare(triple)
 }
 
+// Prints the line of a list of triples: its name, how many triples it has, and what was counted.
 fn print_line(rt: &impl Print, name: &str, triples: u32, tally: Tally) -> io::Result<()> {
     let Tally {
         bodies,

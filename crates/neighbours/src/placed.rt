@@ -13,7 +13,7 @@ const ENTRY: usize = 6;
 // Compares the entry of a case, whose vertices and triangles come after `first`.
 fn compare_entry(case: Case, first: Counts, own: Counts, entry: &[u32; ENTRY]) -> Tally {
     let wanted = [
-        case.kind.into(),
+        case.entry_kind(),
         case.entry_divisions(),
         first.vertices,
         own.vertices,

@@ -9,7 +9,8 @@ const WORDS: usize = 385;
 // Room for the coordinates of 4,096 vertices, and for the indices of as many triangles.
 const ELEMENTS: usize = 12288;
 
-// The buffers of a set, with the bits of its coordinates.
+// The buffers of a set, with the bits of its coordinates, since the comparison goes word by word.
+// Why it is a struct of this program's own is said at `SetBuffers` of `sweep`.
 #[derive(Drop)]
 pub(crate) struct Set {
     pub table: [u32; WORDS],

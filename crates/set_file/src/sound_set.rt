@@ -15,7 +15,7 @@ const EDITION: u32 = 1;
 const FILE_HEAD: usize = 4;
 
 // A set whose table is not damaged: what the table says, and the three buffers, which hold it.
-#[derive(Clone, Copy)]
+#[derive(Clone, Copy, Debug)]
 pub(crate) struct SoundSet<'a> {
     pub totals: Totals,
     pub table: &'a [u32],

@@ -9,12 +9,14 @@ use answers::Refusal;
 use descriptions::Description;
 use set_table::{Lengths, check_fit, read};
 
-// Adds a body to the set: writes its vertices, triangles, entry and word 0, or refuses it. The
-// refusals are tried in the order 1, 10, 20, 21, 22, 11, 12, 13, 2, 3, 4, 23: whether the body has
-// room (2, 3, 4) is known before its vertices are written, and answered after a fold (13).
-// The three buffers stand beside one another: as fields of one struct, three `&mut`, they would
-// make each call promise of each field that it still lends the same buffer, four clauses in place
-// of one here and seven in place of two at `clear`.
+// Adds a body to the set: writes its vertices, its triangles and its entry, and counts it in word
+// 0 of the table. Or it answers the first refusal, in the order 1, 10, 20, 21, 22, 11, 12, 13, 2,
+// 3, 4, 23. A lack of room (2, 3, 4) is known before the vertices are written, but a fold (13) is
+// answered before it.
+//
+// The three buffers are separate parameters. If they were the fields of a struct, three `&mut`,
+// each call would also have to promise that each field still lends the same buffer: four clauses
+// in place of one here, and seven in place of two at `clear`.
 pub fn add(
     description: Description,
     curve: &[f32],

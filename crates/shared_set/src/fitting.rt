@@ -7,7 +7,7 @@ use descriptions::Shaped;
 use set_table::Totals;
 
 // A body with which a set keeps to its limits: what the set adds up to without it, and the body.
-#[derive(Clone, Copy)]
+#[derive(Clone, Copy, Debug)]
 pub(crate) struct Fitting<'a> {
     pub totals: Totals,
     pub shaped: Shaped<'a>,

@@ -1,8 +1,10 @@
 -- A call that is made again after each interruption: what no call changes is as it was, and what
 -- no failed call changes is as it was when the last call is made. Assumes nothing.
-use Rattle.std.proofs.Common.{ℕ, Result, Ok, Err, MatchResult, ◌≡◌, ◌∙◌, refl, ⊎_elim, subst, sym, ap}
+use Rattle.std.proofs.Common.{ℕ, List, Option, Result, Ok, Err, MatchResult, ◌≡◌, ◌∙◌, refl, ⊎_elim, subst, sym, ap}
 use Rattle.std.proofs.lemmas.Fn.{chained_keeps}
 use Rattle.std.specs.declared.io.Error.{Error}
+use Rattle.std.specs.Io.KnownBytes.{Keeps}
+use Rattle.std.proofs.KnownBytes.{Keeps-refl, Keeps-trans}
 use Rattle.streams.specs.Again.{WasInterrupted, LastCall, MadeAgain}
 
 module _ {F : Type 0} {step : F → Result ℕ Error → F → Type 0} {f f' : F} {result : Result ℕ Error}
@@ -33,3 +35,13 @@ module _ {F : Type 0} {step : F → Result ℕ Error → F → Type 0} {f f' : F
         made_again kept =
             let still = chained_keeps (WasInterrupted step) (λ _ q. Kept q) (λ xs p error q h told. keeps p error q told.0 h) made.errors f made.last kept made.interrupted in
             ended result made.last still made.ends
+
+    -- what only the call that succeeds says
+    pub last_told : (P : ℕ → Type 0) → ((last : F) (count : ℕ) → step last (Ok count) f' → P count) → MatchResult result P (λ _. Unit {0})
+    last_told P by = made_again (λ _. Unit {0}) (λ p error q told kept. tt) P (λ last count told kept. by last count told) tt
+
+    -- known bytes, which every call that fails keeps
+    module _ (known : F → Option (List ℕ)) (keeps : (p : F) (error : Error) (q : F) → step p (Err error) q → Keeps (known p) (known q)) where
+      pub known_again : (P : ℕ → Type 0) → ((last : F) (count : ℕ) → step last (Ok count) f' → Keeps (known f) (known last) → P count) → MatchResult result P (λ _. Keeps (known f) (known f'))
+      known_again P by =
+          made_again (λ p. Keeps (known f) (known p)) (λ p error q told kept. Keeps-trans _ _ _ kept (keeps p error q told)) P by (Keeps-refl _)

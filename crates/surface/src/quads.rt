@@ -27,8 +27,9 @@ pub fn quad(split: Split, a: u32, b: u32, d: u32, e: u32) -> [[u32; 3]; 2]
     }
 }
 
-// Copies triangles to the front of `out`. Rows and caps call it in loops of their own: one writer
-// for both would take a closure that makes `N` triangles, and no bound `Fn` may name such an `N`.
+// Copies triangles to the front of `out`. The rows of a grid and the caps each have a loop of
+// their own that calls it. One loop for both would take a closure that makes `N` triangles at each
+// step, but the bound `Fn` of such a closure may not name a const parameter `N`.
 pub(crate) fn put<const N: usize>(out: &mut [u32], triangles: [[u32; 3]; N])
     requires { 3 * N ≤ length out.old }
     ensures { out.new ≡ overwrite 0 (flat_map (λ t. t) triangles.entry) out.old }

@@ -61,6 +61,7 @@ impl Surface {
         self.round.points(self.columns as u32) as u32
     }
 
+    // How many vertices it has: those of its rings, and a pole at each end where it is capped.
     #[tactic(auto, unfolding(crate::specs::Whole::surface_vertex_count))]
     pub fn vertex_count(self) -> u64
         ensures { result ≡ surface_vertex_count self }
@@ -72,6 +73,7 @@ impl Surface {
         grid
     }
 
+    // How many triangles it has: two for each quad, and one for each column of a cap.
     #[tactic(auto, unfolding(crate::specs::Whole::surface_triangle_count))]
     pub fn triangle_count(self) -> u64
         ensures { result ≡ surface_triangle_count self }

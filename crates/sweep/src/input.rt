@@ -11,7 +11,7 @@ use std::io::Read;
 use streams::{RECORD_BYTES, RECORD_WORDS, Stop, read_record};
 
 // What the reading of records came to.
-#[derive(Clone, Copy)]
+#[derive(Clone, Copy, Debug)]
 pub(crate) struct Reading {
     // How many records were added.
     pub(crate) count: u64,

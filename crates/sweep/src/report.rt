@@ -12,7 +12,7 @@ use streams::Stop;
 const LONGEST_TEXT: usize = 320;
 
 // The system's words for an error, without its number.
-#[derive(Clone, Copy)]
+#[derive(Clone, Copy, Debug)]
 struct Words(Error);
 
 impl Display for Words {

@@ -16,7 +16,7 @@ use std::io;
 use std::io::{Read, Write};
 
 // What became of a run.
-#[derive(Clone, Copy)]
+#[derive(Clone, Copy, Debug)]
 pub(crate) struct Run {
     pub(crate) reading: Reading,
     pub(crate) writing: io::Result<()>,

@@ -1,10 +1,10 @@
 -- What the C functions on bodies answer: document 01's numbers ('Refused, and through whom'), 0
 -- for what is accepted, and 2^32 − 1 for a kind outside 1 to 6, for which the paper has no number.
 -- Definitions only.
-use Rattle.std.specs.Prelude.{Bool, false, List, [], ◌∷◌, ℕ, Float, Option, Some, None, length}
+use Rattle.std.specs.Prelude.{Bool, false, List, [], ℕ, Float, Option, Some, None, length}
 use Rattle.laws.specs.Overwrite.{overwrite}
 use Rattle.answers.specs.Answers.{Answer, refused, accepted, number_in}
-use Rattle.descriptions.specs.Refusals.{counts_of, checked_of}
+use Rattle.descriptions.specs.Refusals.{counts_of, count_words, checked_of}
 use Rattle.descriptions.specs.declared.counts.Counts.{Counts}
 use Rattle.descriptions.specs.declared.description.Description.{Description}
 use Rattle.bodies.specs.Bodies.{drawn_of, drawable}
@@ -27,7 +27,7 @@ words_after words (accepted a) old = overwrite 0 (words a) old
 
 -- the two counts if they are accepted, and otherwise what was there
 abbrev pub counts_in : Answer Counts → List ℕ → List ℕ
-counts_in answer old = words_after (λ (k : Counts). k.vertices ∷ k.triangles ∷ []) answer old
+counts_in answer old = words_after count_words answer old
 
 abbrev pub counts_after : Option Description → ℕ → List ℕ → List ℕ
 counts_after (Some d) N old = counts_in (counts_of d N) old

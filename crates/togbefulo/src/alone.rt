@@ -33,7 +33,7 @@ pub extern "C" fn togbefulo_counts(
     let Some(description) = described(kind, divisions, steps, centred, size, length) else {
         return UNKNOWN_KIND;
     };
-    put(description.counts(vertices), counts)
+    put(description.counts(vertices).map(|k| k.into()), counts)
 }
 
 // Checks a description and its curve. Refuses what `togbefulo_counts` does (10, 20, 21, 22), then

@@ -38,7 +38,7 @@ pub extern "C" fn togbefulo_from_word(w: u32) -> f32
     float32::from_word(w)
 }
 
-// The cosine and the sine of k / n turn, if k < n ≤ 2 ^ 24, and otherwise of no turn.
+// The cosine of k / n turn if k < n ≤ 2 ^ 24, and otherwise of no turn.
 #[unsafe(no_mangle)]
 pub extern "C" fn togbefulo_turn_cos(k: u32, n: u32) -> f32
     ensures { result ≡ (turn_of k n).cos }
@@ -46,6 +46,7 @@ pub extern "C" fn togbefulo_turn_cos(k: u32, n: u32) -> f32
     vec3::turn(k, n).cos
 }
 
+// The sine of k / n turn if k < n ≤ 2 ^ 24, and otherwise of no turn.
 #[unsafe(no_mangle)]
 pub extern "C" fn togbefulo_turn_sin(k: u32, n: u32) -> f32
     ensures { result ≡ (turn_of k n).sin }

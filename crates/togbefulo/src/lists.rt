@@ -11,6 +11,7 @@ ghost use Rattle.kinds.specs.declared.topology.Topology.{Topology};
 
 use kinds::{Capsule, ClosedCylinder, Ribbon, Topology, Torus, Tube};
 
+// Writes the triangles of a ribbon, by the segments of its curve.
 #[unsafe(no_mangle)]
 pub extern "C" fn togbefulo_ribbon_triangles(segments: u16, first: u32, out: &mut [u32]) -> bool
     ensures written { let body = Topology.Ribbon (record { segments = segments }) in
@@ -21,6 +22,7 @@ pub extern "C" fn togbefulo_ribbon_triangles(segments: u16, first: u32, out: &mu
     Topology::Ribbon(Ribbon { segments }).write_triangles(first, out)
 }
 
+// Writes the triangles of a tube, by its divisions and the segments of its curve.
 #[unsafe(no_mangle)]
 pub extern "C" fn togbefulo_tube_triangles(
     divisions: u16,
@@ -40,6 +42,8 @@ pub extern "C" fn togbefulo_tube_triangles(
     .write_triangles(first, out)
 }
 
+// Writes the triangles of a capsule, by its divisions, the longitudes of each cap and the segments
+// of its curve.
 #[unsafe(no_mangle)]
 pub extern "C" fn togbefulo_capsule_triangles(
     divisions: u16,
@@ -63,6 +67,7 @@ pub extern "C" fn togbefulo_capsule_triangles(
     .write_triangles(first, out)
 }
 
+// Writes the triangles of a torus, by its divisions and the vertices of its curve.
 #[unsafe(no_mangle)]
 pub extern "C" fn togbefulo_torus_triangles(
     divisions: u16,
@@ -82,6 +87,7 @@ pub extern "C" fn togbefulo_torus_triangles(
     .write_triangles(first, out)
 }
 
+// Writes the triangles of a closed cylinder, by its divisions and its layers.
 #[unsafe(no_mangle)]
 pub extern "C" fn togbefulo_closed_cylinder_triangles(
     divisions: u16,

@@ -67,7 +67,8 @@ pub extern "C" fn togbefulo_file_word(
     ensures word_after { let s = buffers table.now vertices.now triangles.now in
         word.new ≡ word_after (file_word_of s place) word.old }
 {
-    put(set_file::file_word(table, vertices, triangles, place), word)
+    let answer = set_file::file_word(table, vertices, triangles, place);
+    put(answer.map(|w| [w]), word)
 }
 
 // Clears the set and adds the bodies of a list of records. Writes the number that each addition

@@ -11,7 +11,8 @@ const VERTEX_FLOATS: usize = 2400;
 
 const TRIANGLE_WORDS: usize = 4800;
 
-// The buffers that a set is kept in.
+// The buffers that a set is kept in. Why it is a struct of this program's own is said at
+// `SetBuffers` of `sweep`.
 #[derive(Drop)]
 pub(crate) struct Buffers {
     table: [u32; TABLE_WORDS],

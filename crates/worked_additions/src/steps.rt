@@ -5,7 +5,7 @@ use records::record_words;
 
 // A step: how many elements of each buffer are lent, a place of the table and the word that is
 // written there first, and the record whose body is then added.
-#[derive(Clone, Copy)]
+#[derive(Clone, Copy, Debug)]
 pub(crate) struct Step<'a> {
     pub entries: u32,
     pub coordinates: u32,
@@ -16,7 +16,7 @@ pub(crate) struct Step<'a> {
 }
 
 // The steps that a list of words is made of, up to the first words that are no step.
-#[derive(Clone, Copy)]
+#[derive(Clone, Copy, Debug)]
 pub(crate) struct Steps<'a>(pub &'a [u32]);
 
 impl<'a> Iterator for Steps<'a> {

@@ -7,7 +7,7 @@ macro_rules! floats {
 }
 
 // A body by its description and the coordinates of its curve.
-#[derive(Clone, Copy)]
+#[derive(Clone, Copy, Debug)]
 pub(crate) struct Case {
     pub description: Description,
     pub curve: &'static [f32],

@@ -7,17 +7,10 @@ use std::fmt;
 
 // The sizes of a body. One that its kind lacks is 0.
 fn sizes(description: Description) -> Sizes {
-    let none = Sizes {
-        divisions: 0,
-        steps: 0,
-        centred: false,
-        size: 0.0,
-        length: 0.0,
-    };
     match description {
         Description::Ribbon { width } => Sizes {
             size: width,
-            ..none
+            ..Sizes::default()
         },
         Description::Capsule {
             divisions,
@@ -27,7 +20,7 @@ fn sizes(description: Description) -> Sizes {
             divisions,
             steps: longitudes,
             size: radius,
-            ..none
+            ..Sizes::default()
         },
         Description::ClosedCylinder {
             divisions,
@@ -47,7 +40,7 @@ fn sizes(description: Description) -> Sizes {
         | Description::SeamlessTorus { divisions, radius } => Sizes {
             divisions,
             size: radius,
-            ..none
+            ..Sizes::default()
         },
     }
 }

@@ -20,7 +20,9 @@ fn write_body<W: Write>(out: &mut W, case: Case) -> io::Result<()> {
         && bodies::write_vertices(description, curve, &mut values)
     {
         let words = values.map(|x| to_word(x));
-        write_triples(out, &words, body.vertex_count() as usize)?;
+        let (vertices, _) = words.as_chunks::<3>();
+        let end = vertices.len().min(body.vertex_count() as usize);
+        write_triples(out, &vertices[..end])?;
     }
     Ok(())
 }

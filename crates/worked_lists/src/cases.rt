@@ -2,7 +2,7 @@
 use kinds::{Capsule, ClosedCylinder, Ribbon, Topology, Torus, Tube};
 
 // A body, and the number that its first vertex has.
-#[derive(Clone, Copy)]
+#[derive(Clone, Copy, Debug)]
 pub(crate) struct Case {
     pub body: Topology,
     pub first: u32,

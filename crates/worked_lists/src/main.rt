@@ -15,7 +15,9 @@ fn write_list<W: Write>(out: &mut W, case: Case) -> io::Result<()> {
     writeln!(out, "{case}")?;
     let mut indices = [0u32; MOST_INDICES];
     if case.body.write_triangles(case.first, &mut indices) {
-        write_triples(out, &indices, case.body.triangle_count() as usize)?;
+        let (triangles, _) = indices.as_chunks::<3>();
+        let end = triangles.len().min(case.body.triangle_count() as usize);
+        write_triples(out, &triangles[..end])?;
     }
     Ok(())
 }

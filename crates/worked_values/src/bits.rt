@@ -4,7 +4,7 @@ use hex_lines::Words;
 use std::fmt;
 use vec3::Point;
 
-#[derive(Clone, Copy)]
+#[derive(Clone, Copy, Debug)]
 pub(crate) struct Bits(pub [u32; 3]);
 
 impl From<Bits> for Point {

@@ -28,7 +28,7 @@ pub(crate) const ROOTS: [u32; 64] = [
 ];
 
 // k and n, where the direction of k / n turn is worked out.
-#[derive(Clone, Copy)]
+#[derive(Clone, Copy, Debug)]
 pub(crate) struct Turn(pub u32, pub u32);
 
 pub(crate) const TURNS: [Turn; 45] = [
@@ -124,7 +124,7 @@ pub(crate) const FIRST_FRAMES: [Bits; 31] = [
 
 // The frame is transported from the segment before to the segment after. Both segments are
 // normalised first, the frame is taken as it is.
-#[derive(Clone, Copy)]
+#[derive(Clone, Copy, Debug)]
 pub(crate) struct TransportStep {
     pub before: Bits,
     pub after: Bits,

@@ -7,11 +7,11 @@ use std::fmt;
 use vec3::{Frame, Point, turn};
 
 // Bits of a number whose root is worked out.
-#[derive(Clone, Copy)]
+#[derive(Clone, Copy, Debug)]
 pub(crate) struct Root(pub u32);
 
 // Bits of a direction whose first frame is worked out.
-#[derive(Clone, Copy)]
+#[derive(Clone, Copy, Debug)]
 pub(crate) struct FirstFrame(pub Bits);
 
 impl fmt::Display for Root {

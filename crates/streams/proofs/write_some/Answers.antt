@@ -1,18 +1,16 @@
 -- The last write gave the result, and those before it added nothing.
 use Rattle.std.proofs.Common.{rules}
 use Rattle.std.specs.Io.{WritesAtMost}
-use Rattle.std.specs.Io.KnownBytes.{Keeps, WriteAppends}
-use Rattle.std.proofs.KnownBytes.{Keeps-refl, Keeps-trans}
+use Rattle.std.specs.Io.KnownBytes.{WriteAppends}
 use Rattle.streams.proofs.Kept.{kept_appends}
-use Rattle.streams.proofs.Again.{made_again, unchanged}
+use Rattle.streams.proofs.Again.{known_again, last_told, unchanged}
 use Rattle.streams.proofs.write_some.Goals as goal
 
 pub returns-clause-bound : goal.returns-clause-bound
 returns-clause-bound g c =
     let calls = c.retry.ensures.calls in
     let buf = unchanged calls (λ f. f.1.now) (λ p r q told. search rules) in
-    let told : WritesAtMost c.retry.result c.retry.new.call.1.now =
-    made_again calls (λ f. Unit {0}) (λ p error q told _. tt) _ (λ last count told _. search rules) tt in
+    let told : WritesAtMost c.retry.result c.retry.new.call.1.now = last_told calls _ (λ last count told. search rules) in
     search rules
 
 pub returns-clause-bytes : goal.returns-clause-bytes
@@ -20,8 +18,7 @@ returns-clause-bytes g c =
     let calls = c.retry.ensures.calls in
     let output = unchanged calls (λ f. f.0.ghost_name) (λ p r q told. search rules) in
     let buf = unchanged calls (λ f. f.1.now) (λ p r q told. search rules) in
-    let old = g.W.Write.contents c.args.output.now in
     let left = c.retry.new.call in
-    let told : WriteAppends old (g.W.Write.contents left.0.now) c.retry.result left.1.now =
-    made_again calls (λ f. Keeps old (g.W.Write.contents f.0.now)) (λ p error q told kept. Keeps-trans _ _ _ kept (search rules)) _ (λ last count told kept. kept_appends _ _ _ _ kept (search rules)) (Keeps-refl _) in
+    let told : WriteAppends (g.W.Write.contents c.args.output.now) (g.W.Write.contents left.0.now) c.retry.result left.1.now =
+    known_again calls (λ f. g.W.Write.contents f.0.now) (λ p error q told. search rules) _ (λ last count told kept. kept_appends _ _ _ _ kept (search rules)) in
     search rules
