@@ -1,7 +1,7 @@
 -- The scan by blocks of 16: what 16 sums tell of the blocks, and that the blocks and the floats
 -- after them are all floats. Assumes nothing.
 use Rattle.std.proofs.Common.{◌≡◌, refl, sym, ap, ◌∙◌, Bool, true, ◌&&◌, ℕ, zero, suc, ◌+◌, ◌-◌, ◌*◌, ◌/◌, ◌%◌, ◌<◌, ◌≤◌, List, [], length, drop, get_or, ⊎_elim, Float, arith}
-use Rattle.std.proofs.lemmas.Bool.{cases_lt}
+use Rattle.std.proofs.lemmas.Bool.{cases_lt, and_parts}
 use Rattle.std.proofs.lemmas.List.{get_or-drop, length-drop}
 use Rattle.std.specs.Cmp.{both_ways}
 use Rattle.std.specs.Float.{nan, binary32}
@@ -10,7 +10,6 @@ use Rattle.std.specs.Float.Ieee.Scale.{finite}
 use Rattle.std.specs.Simd.{first_chunks}
 use Rattle.laws.specs.Every.{every}
 use Rattle.std.specs.Cmp.Derive.{both_true as and_true}
-use Rattle.laws.proofs.Conjunction.{both_true}
 use Rattle.laws.proofs.Places.{get_or-chunk}
 use Rattle.laws.proofs.Every.{every-each, each-every, every-cong}
 use Rattle.float32.specs.Scan.{all_finite}
@@ -87,7 +86,7 @@ module _ (values : List Float) where
   parts-decide : all_finite rest && blocks_finite blocks ≡ all_finite values
   parts-decide =
       both_ways (all_finite rest && blocks_finite blocks) (all_finite values)
-      (λ both. let each = both_true (all_finite rest) (blocks_finite blocks) both in whole each.0 each.1)
+      (λ both. let each = and_parts (all_finite rest) (blocks_finite blocks) both in whole each.0 each.1)
       (λ all. let each = parts all in and_true each.0 each.1)
 
   -- the same of what `as_chunks` gave, and of the answers that the code has of it

@@ -1,5 +1,5 @@
-// The whole number nearest to a root: guessed, checked by comparing squares, and searched for
-// where the guess is wrong.
+// The whole number nearest to a root: guessed, checked by comparing squares, and worked out from
+// the root rounded down where the guess is wrong.
 ghost use Rattle.std.specs.Prelude.{◌<◌, ◌^◌};
 ghost use Rattle.float32.specs.Near.{Near};
 
@@ -33,9 +33,9 @@ fn by_floor(n: u64) -> u64
     if n <= r * r + r { r } else { r + 1 }
 }
 
-// The whole number nearest to the root of n. The last digits of the guess are a number q, and it
-// is q or q + 1 where the root is within one of the middle between the two: w is the square of
-// that middle, less 1/4.
+// The whole number nearest to the root of n, by the guess `d` of it. The last digits of the guess
+// are a number q. If the root is within one of the middle between q and q + 1, the answer is the
+// one of the two on the root's side of it. w is the square of that middle, less 1/4.
 pub(crate) fn near_root(n: u64, d: f64) -> u64
     requires { (0 < n) × (n < 2 ^ 48) }
     ensures { Near n result }

@@ -7,8 +7,8 @@ ghost use Rattle.float32.specs.Near.{RootBits};
 
 use crate::near::{guess, near_root};
 
-// The pattern of the root of m · 2 ^ (p - 298), for an m of 24 digits and p = 24 - o + 2k: m and
-// 24 - o places more make the square, k the exponent.
+// The pattern of the root of m · 2 ^ (p - 298), for an m of 24 digits and p = 24 - o + 2k. The
+// digits of the root are those of the root of m · 2 ^ (24 - o), and k gives its exponent.
 fn root_bits(m: u64, o: u64, k: u32) -> u32
     requires { (8388608 ≤ m) × (m < 16777216) × (o ≤ 1) × (k ≤ 190) }
     ensures { RootBits m (24 - o + (k + k)) result }
@@ -57,7 +57,7 @@ fn root_of_rest(b: u32) -> f32
 pub fn root(x: f32) -> f32
     ensures { result ≡ root_of x }
 {
-    // Code can read the pattern of no NaN.
+    // `to_bits` may not be called on a NaN, whose pattern is not known.
     if x.is_nan() {
         return x;
     }

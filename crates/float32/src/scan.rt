@@ -5,11 +5,12 @@ ghost use Rattle.float32.specs.Scan.{all_finite};
 
 use crate::words::is_finite;
 
-// How many floats a block has, and how many sums there are. With 8 sums each addition waits for the
-// one before it, and a long slice takes two thirds longer.
+// How many floats a block has, and how many sums there are. With 8 sums each addition waits for
+// the one before it, and a long slice takes two thirds longer.
 const LANES: usize = 16;
 
-// Whether each value is finite, tried one after another.
+// Whether each value is finite. The floats are tried one after another, which serves where they
+// are few.
 fn is_each_finite(values: &[f32]) -> bool
     ensures { result ≡ all_finite values.now }
 {
@@ -35,9 +36,9 @@ fn are_zeros(sums: &[f32; LANES]) -> bool
 }
 
 // Whether each float of the blocks is finite. A finite float times 0.0 is a zero. An infinity or a
-// NaN times 0.0 is a NaN, and a sum that a NaN was added to stays a NaN. So a sum is a zero exactly
-// if all floats of its lane are finite. It is done by sums because the compiler adds four floats in
-// one instruction, but tests the floats of a slice one by one.
+// NaN times 0.0 is a NaN, and a sum that a NaN was added to stays a NaN. So a sum is a zero
+// exactly if all floats of its lane are finite. It is done by sums because the compiler adds four
+// floats in one instruction, but tests the floats of a slice one by one.
 fn are_blocks_finite(blocks: &[[f32; LANES]]) -> bool
     ensures { result ≡ blocks_finite blocks.now }
 {
@@ -48,9 +49,9 @@ fn are_blocks_finite(blocks: &[[f32; LANES]]) -> bool
     are_zeros(&sums)
 }
 
-// Whether every value is finite. No loop stops at the first that is not, since one that may stop
-// takes the floats one by one. A slice with no whole block skips the sums, since looking at them
-// takes as long as six floats.
+// Whether every value is finite. No loop stops at the first that is not: each looks at all of its
+// floats, and blocks are added up. A slice with no whole block skips the sums, since looking at
+// them takes as long as six floats.
 pub fn are_finite(values: &[f32]) -> bool
     ensures { result ≡ all_finite values.now }
 {

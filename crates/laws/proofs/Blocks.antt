@@ -1,13 +1,13 @@
 -- The laws of a list made of blocks, and of every loop that writes one. Assumes nothing.
 use Rattle.std.specs.Prelude.{◌≡◌, refl, List, [], ◌∷◌, ◌++◌, map, ℕ, zero, suc, ◌+◌, ◌-◌, ◌*◌, ◌≤◌, ◌<◌}
-use Rattle.std.specs.Prelude.{length, get_or, take}
+use Rattle.std.specs.Prelude.{length, get_or, take, set}
 use Rattle.std.proofs.Common.{sym, ap, ◌∙◌, append-nil, append_assoc, ⊎_elim, suc-mul, zero-add, add-zero}
 use Rattle.std.proofs.Common.{add-suc, not-suc-le-zero, le_of_suc-le-suc, eq-or-lt_of_le, add-one, arith}
 use Rattle.std.proofs.Common.{length-append, take-suc, get_or-append-add}
 use Rattle.std.proofs.lemmas.List.{map-append}
 use Rattle.std.proofs.Math.ListN.{get_or-append}
 use Rattle.laws.specs.Overwrite.{overwrite}
-use Rattle.laws.proofs.Overwrite.{written_behind}
+use Rattle.laws.proofs.Overwrite.{written_behind, one_store}
 use Rattle.laws.specs.Sums.{sum_below}
 use Rattle.laws.proofs.Sums.{sum-within}
 use Rattle.laws.specs.Blocks.{blocks}
@@ -114,6 +114,12 @@ module _ {ℓ} {A : Type ℓ} where
       → i ≡ n → t ≡ overwrite at (blocks n f) t₀
   all-written at f t₀ {t} {i} {n} so e = so ∙ ap (λ (k : ℕ). overwrite at (blocks k f) t₀) e
 
+  -- a turn of a loop that stores element i at place i
+  pub store_more : (i : ℕ) (f : ℕ → A) (t₀ : List A) {t : List A} {v : A}
+      → t ≡ overwrite 0 (blocks i (λ k. f k ∷ [])) t₀ → v ≡ f i → set t i v ≡ overwrite 0 (blocks (i + 1) (λ k. f k ∷ [])) t₀
+  store_more i f t₀ {t} {v} before is =
+      one_more 0 i 1 (λ k. f k ∷ []) t₀ (λ k h. refl) before (omega arith) (one_store i v t) (ap (λ (x : A). x ∷ []) is)
+
   -- what is left after block 0, v, was written, and then the others
   pub first-and-others : (n c : ℕ) (f : ℕ → List A) (t₀ : List A) {t t' v : List A} → 1 ≤ n → length (f 0) ≡ c
       → t ≡ overwrite 0 v t₀ → v ≡ f 0 → t' ≡ overwrite c (blocks (n - 1) (λ k. f (k + 1))) t
@@ -154,3 +160,9 @@ module _ {ℓ ℓ'} {A : Type ℓ} {B : Type ℓ'} where
       ∙ blocks-first (length l) made
       ∙ ap (λ (r : List B). f x ∷ r) (blocks-cong (length l) (λ k. made (k + 1)) next (λ k h. ap made (add-one k))
       ∙ blocks-map f l d)
+
+  -- what a loop leaves that stores f of each element of a list, once its count is the list's length
+  pub all_stored : (f : A → B) (l : List A) (d : A) (t₀ : List B) {t : List B} {i : ℕ}
+      → t ≡ overwrite 0 (blocks i (λ k. f (get_or l k d) ∷ [])) t₀ → i ≡ length l → t ≡ overwrite 0 (map f l) t₀
+  all_stored f l d t₀ so e =
+      all-written 0 (λ k. f (get_or l k d) ∷ []) t₀ so e ∙ ap (λ (new : List B). overwrite 0 new t₀) (blocks-map f l d)

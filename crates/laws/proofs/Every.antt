@@ -3,14 +3,14 @@
 use Rattle.std.specs.Prelude.{◌≡◌, refl, Bool, true, false, ◌&&◌, ℕ, zero, suc, ◌+◌, ◌<◌}
 use Rattle.std.proofs.Common.{sym, ap, ◌∙◌, ⊎_elim, not-suc-le-zero, le_of_suc-le-suc, eq-or-lt_of_le, add-one, arith}
 use Rattle.std.proofs.Math.Bool.{and-true, and-false}
-use Rattle.laws.proofs.Conjunction.{both_true}
+use Rattle.std.proofs.lemmas.Bool.{and_parts}
 use Rattle.laws.specs.Every.{every}
 
 -- what a reader takes it for, in both directions
 pub every-each : (n : ℕ) (f : ℕ → Bool) → every n f ≡ true → (k : ℕ) → k < n → f k ≡ true
 every-each zero f all k h = absurd (not-suc-le-zero h)
 every-each (suc n) f all k h =
-    let both = both_true (every n f) (f n) all in
+    let both = and_parts (every n f) (f n) all in
     ⊎_elim (λ same. ap f same ∙ both.1) (λ lower. every-each n f both.0 k lower) (eq-or-lt_of_le (le_of_suc-le-suc h))
 
 pub each-every : (n : ℕ) (f : ℕ → Bool) → ((k : ℕ) → k < n → f k ≡ true) → every n f ≡ true
@@ -23,8 +23,7 @@ pub every-cong : (n : ℕ) (f g : ℕ → Bool) → ((k : ℕ) → k < n → f k
 every-cong zero f g h = refl
 every-cong (suc n) f g h = λ i. every-cong n f g (λ k l. h k (omega arith)) i && h n (omega arith) i
 
--- A turn of a loop that keeps the answer so far in a flag; and that clears the flag where the test
--- fails.
+-- A turn of a loop that keeps the answer so far in a flag.
 every-next : (i : ℕ) (f : ℕ → Bool) {flag next : Bool} → flag ≡ every i f → next ≡ flag && f i → next ≡ every (i + 1) f
 every-next i f {flag} {next} before is =
     is ∙ ap (λ (b : Bool). b && f i) before ∙ ap (λ (k : ℕ). every k f) (sym (add-one i))
@@ -33,10 +32,6 @@ pub flag-kept : (i : ℕ) (f : ℕ → Bool) {flag next : Bool} → flag ≡ eve
     → next ≡ every (i + 1) f
 flag-kept i f {flag} {next} before kept here =
     every-next i f before (kept ∙ sym (ap (λ (b : Bool). flag && b) here ∙ and-true flag))
-
-pub flag_cleared : (i : ℕ) (f : ℕ → Bool) {next : Bool} → next ≡ false → f i ≡ false → next ≡ every (i + 1) f
-flag_cleared i f {next} cleared fails =
-    every-next i f refl (cleared ∙ sym (ap (λ (b : Bool). every i f && b) fails ∙ and-false (every i f)))
 
 -- A turn of a loop that goes on only while the test holds, and the turn at which it stops.
 pub every_more : (i : ℕ) (f : ℕ → Bool) → every i f ≡ true → f i ≡ true → every (i + 1) f ≡ true

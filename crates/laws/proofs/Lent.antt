@@ -3,7 +3,8 @@
 -- (document 01, 'The shared set'). Assumes nothing.
 use Rattle.std.specs.Prelude.{◌≡◌, refl, List, [], ◌∷◌, ◌++◌, ℕ, zero, suc, ◌+◌, ◌-◌, ◌≤◌, length, take, drop}
 use Rattle.std.proofs.Common.{sym, ap, ◌∙◌, append-nil, zero-add, suc-add, add-zero, not-suc-le-zero}
-use Rattle.std.proofs.Common.{le_of_suc-le-suc, arith, length-drop, drop_of_length-le, take_all}
+use Rattle.std.proofs.Common.{le_of_suc-le-suc, arith, length-drop, drop_of_length-le}
+use Rattle.std.proofs.lemmas.List.{take_rest}
 use borrow.Rule.Slice.PartMut.{put_mid, post_of}
 use Rattle.laws.specs.Parts.{part}
 use Rattle.laws.specs.Overwrite.{overwrite}
@@ -11,23 +12,20 @@ use Rattle.laws.proofs.Overlaps.{overwrite-front}
 
 module _ {X : Type 0} where
   -- a write at place b of the part that begins at place a
-  overwrite-part : (a b : ℕ) (new old : List X) → take a old ++ overwrite b new (drop a old) ≡ overwrite (a + b) new old
+  pub overwrite-part : (a b : ℕ) (new old : List X) → take a old ++ overwrite b new (drop a old) ≡ overwrite (a + b) new old
   overwrite-part zero b new old = ap (λ (k : ℕ). overwrite k new old) (sym (zero-add b))
   overwrite-part (suc a) b new [] = refl
   overwrite-part (suc a) b new (x ∷ old) =
       ap (λ (r : List X). x ∷ r) (overwrite-part a b new old) ∙ ap (λ (k : ℕ). overwrite k new (x ∷ old)) (sym (suc-add a b))
 
-  rest : (a : ℕ) (xs : List X) → part a (length xs - a) xs ≡ drop a xs
-  rest a xs = take_all (length xs - a) (drop a xs) (omega (arith, length-drop a xs))
-
   pub length_rest : (a : ℕ) (xs : List X) → length (part a (length xs - a) xs) ≡ length xs - a
-  length_rest a xs = ap length (rest a xs) ∙ length-drop a xs
+  length_rest a xs = ap length (take_rest xs a) ∙ length-drop a xs
 
   -- `&mut s[a..]`, at whose front a list was written
   pub lent-from : (a : ℕ) (new xs : List X) {ys : List X} → ys ≡ overwrite 0 new (part a (length xs - a) xs)
       → put_mid a (length xs - a) xs ys ≡ overwrite a new xs
   lent-from a new xs {ys} e =
-      ap (λ (l : List X). take a xs ++ (l ++ post_of a (length xs - a) xs)) (e ∙ ap (λ (l : List X). overwrite 0 new l) (rest a xs))
+      ap (λ (l : List X). take a xs ++ (l ++ post_of a (length xs - a) xs)) (e ∙ ap (λ (l : List X). overwrite 0 new l) (take_rest xs a))
       ∙ ap (λ (l : List X). take a xs ++ (overwrite 0 new (drop a xs) ++ l))
       (drop_of_length-le (drop a xs) {i = length xs - a} (omega (arith, length-drop a xs)))
       ∙ ap (λ (l : List X). take a xs ++ l) (append-nil (overwrite 0 new (drop a xs)))

@@ -2,7 +2,7 @@
 -- Assumes nothing.
 use Rattle.std.specs.Prelude.{◌≡◌, refl, List, [], ◌∷◌, ◌++◌, ℕ, zero, suc, ◌+◌, ◌≤◌, ◌<◌}
 use Rattle.std.specs.Prelude.{length, get_or, set}
-use Rattle.std.proofs.Common.{sym, ap, ◌∙◌, subst, suc-add, add-suc, not-suc-le-zero, le_of_suc-le-suc}
+use Rattle.std.proofs.Common.{sym, ap, ◌∙◌, subst, suc-add, add-suc, zero-add, not-suc-le-zero, le_of_suc-le-suc}
 use Rattle.std.proofs.Math.Numerals.{towards_suc}
 use Rattle.std.proofs.lemmas.List.Edits.{sets}
 use Rattle.laws.specs.Overwrite.{overwrite}
@@ -20,6 +20,10 @@ module _ {ℓ} {A : Type ℓ} where
   overwrite-none zero (x ∷ old) = refl
   overwrite-none (suc at) [] = refl
   overwrite-none (suc at) (x ∷ old) = ap (λ (r : List A). x ∷ r) (overwrite-none at old)
+
+  -- the same the other way round: a loop that writes has written nothing before its first turn
+  pub unwritten : (at : ℕ) (old : List A) → old ≡ overwrite at [] old
+  unwritten at old = sym (overwrite-none at old)
 
   -- two writes, one behind the other, are one
   pub overwrite-append : (at : ℕ) (new more old : List A)
@@ -39,6 +43,15 @@ module _ {ℓ} {A : Type ℓ} where
       → t ≡ overwrite at new t₀ → length new ≡ k → t' ≡ overwrite (at + k) more t → t' ≡ overwrite at (new ++ more) t₀
   written_behind at new more t₀ first sized second =
       second ∙ (λ i. overwrite (at + sym sized i) more (first i)) ∙ overwrite-append at new more t₀
+
+  -- three writes, each behind the one before it
+  pub three-written : (x y z t₀ : List A) {t₁ t₂ t₃ : List A} {a b : ℕ}
+      → t₁ ≡ overwrite 0 x t₀ → length x ≡ a → t₂ ≡ overwrite a y t₁ → length y ≡ b → t₃ ≡ overwrite (a + b) z t₂
+      → t₃ ≡ overwrite 0 (x ++ (y ++ z)) t₀
+  three-written x y z t₀ {t₁} {t₂} {a = a} {b = b} first sized second sized' third =
+      written_behind 0 x (y ++ z) t₀ first sized
+      (written_behind (0 + a) y z t₁ (second ∙ ap (λ (k : ℕ). overwrite k y t₁) (sym (zero-add a))) sized'
+      (third ∙ ap (λ (k : ℕ). overwrite (k + b) z t₂) (sym (zero-add a))))
 
   -- a write whose first element is stored first
   overwrite-cons : (at : ℕ) (v : A) (vs old : List A) → overwrite (suc at) vs (set old at v) ≡ overwrite at (v ∷ vs) old

@@ -1,15 +1,8 @@
 -- What stands at a place of a list that is made of another. Assumes nothing.
-use Rattle.std.specs.Prelude.{◌≡◌, refl, List, [], ◌∷◌, map, ℕ, zero, suc, ◌+◌, ◌*◌, ◌<◌, length, get_or, drop}
-use Rattle.std.proofs.Common.{◌∙◌, ap, not-suc-le-zero, le_of_suc-le-suc, arith}
+use Rattle.std.specs.Prelude.{◌≡◌, List, [], ℕ, zero, suc, ◌+◌, ◌*◌, ◌<◌, get_or, drop}
+use Rattle.std.proofs.Common.{◌∙◌, ap, arith}
 use Rattle.std.proofs.lemmas.List.{get_or-take, get_or-drop}
 use Rattle.std.specs.Simd.{first_chunks}
-
--- of a map, whatever would stand past either list's end
-pub get_or-map : {A B : Type 0} (f : A → B) (l : List A) (k : ℕ) (d : A) (e : B) → k < length l
-    → f (get_or l k d) ≡ get_or (map f l) k e
-get_or-map f [] k d e h = absurd (not-suc-le-zero h)
-get_or-map f (x ∷ l) zero d e h = refl
-get_or-map f (x ∷ l) (suc k) d e h = get_or-map f l k d e (le_of_suc-le-suc h)
 
 -- of the chunks of n elements that a list is cut into
 pub get_or-chunk : {A : Type 0} (n count : ℕ) (list : List A) (i k : ℕ) (d : A) → i < count → k < n

@@ -1,13 +1,9 @@
 -- Each turn of the loop stores one word behind the last.
-use Rattle.std.proofs.Common.{◌≡◌, ◌∙◌, refl, sym, ap, ℕ, ◌+◌, ◌*◌, ◌/◌, ◌<◌, List, [], ◌∷◌, length, get_or, add-zero, arith}
-use Rattle.laws.proofs.Overwrite.{overwrite-none, one_store}
-use Rattle.laws.proofs.Blocks.{one_more}
+use Rattle.std.proofs.Common.{◌≡◌, ◌∙◌, ap, ℕ, ◌+◌, ◌*◌, ◌/◌, ◌<◌, List, [], length, get_or, add-zero, arith}
+use Rattle.laws.proofs.Blocks.{store_more}
 use Rattle.laws.proofs.Places.{get_or-chunk}
-use Rattle.little_endian.proofs.read_words.Invariants.{here}
+use Rattle.little_endian.proofs.read_words.Invariants.{word}
 use Rattle.little_endian.proofs.read_words.Goals as goal
-
-pub loop-i-init : goal.loop-i-init
-loop-i-init c = sym (overwrite-none 0 _)
 
 pub loop-i-preserved : goal.loop-i-preserved
 loop-i-preserved c =
@@ -17,5 +13,5 @@ loop-i-preserved c =
     let byte : (b : ℕ) → b < 4 → get_or (get_or chunks l.i []) b 0 ≡ get_or bytes (4 * l.i + b) 0 =
     λ b h. ap (λ (cs : List (List ℕ)). get_or (get_or cs l.i []) b 0) c.as_chunks.ensures.front ∙ get_or-chunk 4 (length bytes / 4) bytes l.i b 0 (omega arith) h in
     let lowest = simp add-zero at (byte 0 (omega arith)) in
-    one_more 0 l.i 1 (here bytes) c.args.out.now (λ k h. refl) l.invariant (omega arith)
-    (one_store l.i c.from_le_bytes.result l.out) (ap (λ (w : ℕ). w ∷ []) (omega (arith, lowest, byte 1 (omega arith), byte 2 (omega arith), byte 3 (omega arith))))
+    store_more l.i (word bytes) c.args.out.now l.invariant
+    (omega (arith, lowest, byte 1 (omega arith), byte 2 (omega arith), byte 3 (omega arith)))

@@ -1,13 +1,9 @@
 -- Each turn of the loop puts the bytes of one word behind those of the last.
-use Rattle.std.proofs.Common.{◌*◌, ◌+◌, ◌-◌, refl, sym, ap, ◌∙◌, length, arith}
-use Rattle.laws.proofs.Overwrite.{overwrite-none}
+use Rattle.std.proofs.Common.{◌*◌, ◌+◌, ◌-◌, refl, ap, ◌∙◌, length, arith}
 use Rattle.laws.proofs.Lent.{lent-part}
 use Rattle.laws.proofs.Blocks.{one_more}
 use Rattle.little_endian.proofs.write_words.Invariants.{here}
 use Rattle.little_endian.proofs.write_words.Goals as goal
-
-pub loop-i-init : goal.loop-i-init
-loop-i-init c = sym (overwrite-none 0 _)
 
 pub loop-i-preserved : goal.loop-i-preserved
 loop-i-preserved c =

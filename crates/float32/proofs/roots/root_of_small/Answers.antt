@@ -1,7 +1,7 @@
 -- `float32::roots::root_of_small` meets its contract: the pattern is how many of the smallest
 -- value there are. Assumes nothing.
 use Rattle.std.proofs.Common.{◌≡◌, sym, ap, ◌∙◌, ℕ, ◌+◌, ◌-◌, ◌*◌, ◌/◌, ◌%◌, ◌^◌, ◌≤◌, mod-eq_of_lt, pos_of_ne-zero, arith}
-use lib.Count.{count_leading_zeros}
+use Rattle.std.specs.Int.Count.{count_leading_zeros}
 use Rattle.std.specs.Float.{binary32}
 use Rattle.std.specs.Float.Ieee.{of_bits}
 use Rattle.std.proofs.lemmas.Float.{not_nan_f32_bits}
