@@ -1,20 +1,7 @@
 -- The first refusal of a list of tests: what an answer tells of the tests, and which answer the
 -- tests give. Assumes nothing.
-use mathlib.Core.Path.{◌≡◌, refl, sym, ap, ◌∙◌, subst}
-use mathlib.Core.Bool.{Bool, true, false, not, cond}
-use mathlib.Core.List.{List, [], ◌∷◌, ◌++◌}
-use Prim.Native.Nat.{ℕ}
-use native.Mathlib.Omega.{arith}
-use borrow.Author.Tests.{not-true, not-false}
-use lib.Dec.{T, eqb}
+use Rattle.std.proofs.Common.{◌≡◌, refl, sym, ap, ◌∙◌, subst, Bool, true, false, cond, List, [], ◌∷◌, ◌++◌, ℕ, T, eqb, arith}
 use Rattle.answers.specs.Answers.{Answer, Test, AllPermitted, refused, accepted, is_accepted, first_of}
-
--- what `if !test` tells on its two ways
-pub refuses : {x p : Bool} → x ≡ p → not x ≡ true → p ≡ false
-refuses {x} e h = sym e ∙ not-true x h
-
-pub permits : {x p : Bool} → x ≡ p → not x ≡ false → p ≡ true
-permits {x} e h = sym e ∙ not-false x h
 
 module _ {A : Type 0} where
   test-passed : (p : Bool) (k : ℕ) {a : A} (rest : Answer A) → accepted a ≡ cond p rest (refused k)

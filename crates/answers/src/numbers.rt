@@ -3,8 +3,8 @@ ghost use Rattle.answers.specs.Answers.{number_in, answer_of};
 
 use crate::refusal::Refusal;
 
-// The number that stands for an answer outside Rust: document 01's number of the refusal, or 0
-// where nothing is refused.
+// The number that C and the programs' output have for an answer: document 01's number of the
+// refusal, or 0 where nothing is refused.
 pub fn number<T: Copy>(answer: Result<T, Refusal>) -> u32
     ensures { result ≡ number_in (answer_of answer) }
 {

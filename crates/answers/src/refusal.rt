@@ -3,7 +3,8 @@ ghost use Rattle.answers.specs.Answers.{number_of};
 
 use thiserror::Error;
 
-// Why a call is refused: every reason of document 01, 'Refused, and through whom', with its number.
+// Why a call is refused: every reason of document 01, 'Refused, and through whom', with its
+// number.
 #[derive(Clone, Copy, Debug, PartialEq, Eq, Error)]
 pub enum Refusal {
     #[error("the table of contents is damaged")]

@@ -1,6 +1,7 @@
 -- What each kind's writer asks, of a body that 10, 20 and 21 permit and that has room. Assumes
 -- nothing.
 use Rattle.std.proofs.Common.{◌≡◌, ap, List, ℕ, ◌+◌, ◌-◌, ◌*◌, ◌≤◌, arith, Float}
+use Rattle.vec3.specs.declared.points.Point.{Point}
 use Rattle.kinds.specs.Kinds.{vertex_count}
 use Rattle.curve.specs.Segments.{vertices_in}
 use Rattle.descriptions.specs.Descriptions.{topology_of}
@@ -14,10 +15,10 @@ use Rattle.swept_bodies.specs.Capsule.{CapsuleFits}
 use Rattle.bodies.specs.Bodies.{CurveDirections}
 
 -- of a torus, with a seam or without
-abbrev LoopAsks : ℕ → List Float → List Float → ℕ → Type 0
+abbrev LoopAsks : ℕ → List Float → List Point → ℕ → Type 0
 LoopAsks n c table room = ClosedCurve c table × (vertices_in c * (n * 3) ≤ room)
 
-abbrev pub Asks : Description → List Float → List Float → ℕ → Type 0
+abbrev pub Asks : Description → List Float → List Point → ℕ → Type 0
 Asks (Ribbon w) c table room = OpenCurve c table × ((vertices_in c - 1 + 1) * 6 ≤ room)
 Asks (Tube n r) c table room = OpenCurve c table × ((vertices_in c - 1 + 1) * (n * 3) ≤ room)
 Asks (Capsule n L r) c table room = OpenCurve c table × CapsuleFits (vertices_in c - 1) n L room
@@ -25,7 +26,7 @@ Asks (Torus n r) c table room = LoopAsks n c table room
 Asks (ClosedCylinder n S centred r l) c table room = (S ≤ 4096) × ((S + 1) * (n * 3) + 6 ≤ room)
 Asks (SeamlessTorus n r) c table room = LoopAsks n c table room
 
-loop-asks : (n : ℕ) (r : Float) (c table : List Float) (room : ℕ) → let torus = Torus n r in
+loop-asks : (n : ℕ) (r : Float) (c : List Float) (table : List Point) (room : ℕ) → let torus = Torus n r in
     ShapePermitted torus (vertices_in c) → 3 * vertex_count (topology_of torus (vertices_in c)) ≤ room
     → CurveDirections torus c table → LoopAsks n c table room
 loop-asks n r c table room h fits along =
@@ -33,7 +34,7 @@ loop-asks n r c table room h fits along =
     let most = vertices-most (Torus n r) (vertices_in c) h.0 in
     (record { segment = omega arith; most = most; table = along }, omega arith)
 
-pub asks : (d : Description) (c table : List Float) (room : ℕ) → ShapePermitted d (vertices_in c)
+pub asks : (d : Description) (c : List Float) (table : List Point) (room : ℕ) → ShapePermitted d (vertices_in c)
     → 3 * vertex_count (topology_of d (vertices_in c)) ≤ room
     → CurveDirections d c table → Asks d c table room
 asks (Ribbon w) c table room h fits along =

@@ -1,9 +1,10 @@
 -- The folds (13) of a curve are those that the table of its directions has. Assumes nothing.
-use Rattle.std.proofs.Common.{◌≡◌, ap, ◌∙◌, not, List, ℕ, ◌<◌, arith, lt-ltb, Float, refl}
+use Rattle.std.proofs.Common.{◌≡◌, not, List, ℕ, ◌<◌, Float, refl}
 use Rattle.laws.proofs.Every.{every-cong}
 use Rattle.surface.specs.Grid.{after_of}
 use Rattle.surface.specs.declared.grid.Chain.{Chain}
-use Rattle.curve.specs.Segments.{vertices_in, point_at, vertex_of, segment_direction}
+use Rattle.vec3.specs.declared.points.Point.{Point}
+use Rattle.curve.specs.Segments.{vertices_in}
 use Rattle.curve.specs.Checks.{is_fold, corner_cosine, folds_permitted, cosine_in, no_fold_in}
 use Rattle.descriptions.specs.Descriptions.{curve_chain, segment_count, corners_of}
 use Rattle.descriptions.specs.Refusals.{curve_folds_permitted}
@@ -13,21 +14,16 @@ use Rattle.swept_bodies.specs.Tables.{DirectionTable}
 use Rattle.swept_bodies.proofs.Tables.{written-table}
 use Rattle.bodies.specs.Bodies.{CurveDirections}
 
-module _ (chain : Chain) (count : ℕ) (c table : List Float) (along : DirectionTable chain count c table) where
-  -- the direction of a segment, by its number
-  numbered : (k : ℕ) → k < count → vertex_of table k ≡ segment_direction chain count c k
-  unfolding vertex_of
-  numbered k h =
-      rw (lt-ltb k (vertices_in table) (omega (arith, along.room)))
-      (ap (point_at table) (omega arith) ∙ along.direction k h)
-
+module _ (chain : Chain) (count : ℕ) (c : List Float) (table : List Point)
+    (along : DirectionTable chain count c table) where
   -- c of the table is the curve's
-  cosine : (k : ℕ) → k < count → after_of chain count k < count → cosine_in chain count table k ≡ corner_cosine chain count c k
+  cosine : (k : ℕ) → k < count → after_of chain count k < count
+      → cosine_in chain count table k ≡ corner_cosine chain count c k
   unfolding cosine_in corner_cosine
-  cosine k h next = rw (numbered k h, numbered (after_of chain count k) next) refl
+  cosine k h next = rw (along.direction k h, along.direction (after_of chain count k) next) refl
 
 -- 13 by the table is 13 of the curve
-pub folds-in-directions : (d : Description) (c table : List Float) → CurveDirections d c table
+pub folds-in-directions : (d : Description) (c : List Float) (table : List Point) → CurveDirections d c table
     → no_fold_in (curve_chain d) (segment_count d (vertices_in c)) (corners_of d (vertices_in c)) table
     ≡ curve_folds_permitted d c
 unfolding no_fold_in folds_permitted

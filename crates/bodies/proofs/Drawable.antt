@@ -1,7 +1,7 @@
 -- Which bodies can be drawn, by what the tests of the code tell. Assumes nothing.
 use Rattle.std.proofs.Common.{◌≡◌, refl, sym, ap, ◌∙◌, Bool, true, false, cond, ◌&&◌, List, [], ◌∷◌, ℕ, ◌*◌, ◌≤◌}
 use Rattle.std.proofs.Common.{arith, eqb, Float, length, ◌%◌}
-use Rattle.laws.proofs.Conjunction.{both_true}
+use Rattle.std.proofs.lemmas.Bool.{and_parts}
 use Rattle.surface.specs.Limits.{fits}
 use Rattle.surface.proofs.Totals.{fits-bounds}
 use Rattle.kinds.specs.Kinds.{vertex_count}
@@ -56,7 +56,7 @@ module _ (d : Description) (c : List Float) (room : ℕ) where
   unfolding drawable
   tests h =
       let shaped = is_accepted (shape_of d N) in
-      both_true shaped enough (both_true (eqb (length c % 3) 0) (shaped && enough) h).1
+      and_parts shaped enough (and_parts (eqb (length c % 3) 0) (shaped && enough) h).1
 
   -- what is drawn has a permitted shape, and room
   pub drawn-shape : drawable d c room ≡ true → ShapePermitted d N

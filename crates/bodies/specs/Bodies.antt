@@ -5,6 +5,7 @@
 use Rattle.std.specs.Prelude.{◌≡◌, Bool, true, ◌&&◌, List, ℕ, ◌+◌, ◌-◌, Float}
 use Rattle.laws.specs.Blocks.{blocks}
 use Rattle.float32.specs.Scan.{all_finite}
+use Rattle.vec3.specs.declared.points.Point.{Point}
 use Rattle.surface.specs.Limits.{fits}
 use Rattle.kinds.specs.Kinds.{vertex_count}
 use Rattle.curve.specs.Segments.{vertices_in}
@@ -103,5 +104,5 @@ drawable d c room =
     whole_vertices c && (is_accepted (shape_of d N) && fits (vertex_count (topology_of d N)) room)
 
 -- the table of the directions of a body's curve
-abbrev pub CurveDirections : Description → List Float → List Float → Type 0
+abbrev pub CurveDirections : Description → List Float → List Point → Type 0
 CurveDirections d c table = DirectionTable (curve_chain d) (segment_count d (vertices_in c)) c table

@@ -8,10 +8,11 @@ use crate::tables::with_tables;
 use answers::Refusal;
 use descriptions::{Description, Shaped};
 use kinds::Topology;
+use vec3::Point;
 
 // Checks a curve for folds (13), by the table of its directions.
 #[tactic(auto, using(crate::proofs::Corners::directions))]
-pub(crate) fn check_corners(shaped: Shaped<'_>, directions: &[f32]) -> Result<(), Refusal>
+pub(crate) fn check_corners(shaped: Shaped<'_>, directions: &[Point]) -> Result<(), Refusal>
     requires { CurveDirections shaped.description shaped.curve.now directions.now }
     ensures { answer_of result ≡ folds_answer shaped.entry }
 {

@@ -17,10 +17,11 @@ use swept_bodies::{
     set_vtx2xyz_for_generalized_cylinder_open_end, to_trimesh3_capsule, to_trimesh3_ribbon,
     to_trimesh3_torus,
 };
+use vec3::Point;
 
 // Writes the vertices of a body to the front of `out`, from the table of its curve's directions.
 // `ez` is scratch space.
-fn fill(shaped: Shaped<'_>, directions: &[f32], ez: &mut [f32], out: &mut [f32])
+fn fill(shaped: Shaped<'_>, directions: &[Point], ez: &mut [Point], out: &mut [f32])
     requires out_room { 3 * vertex_count shaped.body ≤ length out.old }
     requires tables { BodyTables shaped directions.now ez.old }
     ensures { out.new ≡ overwrite 0 (drawn shaped.entry) out.old }
@@ -43,10 +44,13 @@ fn fill(shaped: Shaped<'_>, directions: &[f32], ez: &mut [f32], out: &mut [f32])
             )
         }
         Description::Capsule {
-            longitudes: l,
+            longitudes,
             radius,
             ..
-        } => to_trimesh3_capsule(out, curve, directions, ez, &turns, l as u16, radius),
+        } => {
+            let longitudes = longitudes as u16;
+            to_trimesh3_capsule(out, curve, directions, ez, &turns, longitudes, radius)
+        }
         Description::Torus { radius, .. } => {
             to_trimesh3_torus(out, curve, directions, &turns, radius)
         }
@@ -66,8 +70,8 @@ fn fill(shaped: Shaped<'_>, directions: &[f32], ez: &mut [f32], out: &mut [f32])
 // Writes them if the curve passes the check for folds (13), by the same table.
 fn fill_unless_folded(
     shaped: Shaped<'_>,
-    directions: &[f32],
-    ez: &mut [f32],
+    directions: &[Point],
+    ez: &mut [Point],
     out: &mut [f32],
 ) -> Result<(), Refusal>
     requires out_room { 3 * vertex_count shaped.body ≤ length out.old }

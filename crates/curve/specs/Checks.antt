@@ -7,9 +7,9 @@ use Rattle.std.specs.Float.Ieee.Scale.{finite}
 use Rattle.laws.specs.Every.{every}
 use Rattle.surface.specs.Grid.{after_of}
 use Rattle.surface.specs.declared.grid.Chain.{Chain}
-use Rattle.vec3.specs.Points.{plus, dot_of}
+use Rattle.vec3.specs.Points.{plus, dot_of, point_in}
 use Rattle.vec3.specs.declared.points.Point.{Point}
-use Rattle.curve.specs.Segments.{vertex_of, segment_of, segment_direction}
+use Rattle.curve.specs.Segments.{segment_of, segment_direction}
 
 -- 12: "a segment .. whose difference dotted with itself is below 2^−40 or above 2^80 or not
 -- finite". 2B800000 is 2^−40, 67800000 is 2^80.
@@ -39,10 +39,10 @@ folds_permitted chain count corners c = every corners (λ k. not (is_fold (corne
 
 -- c and folds again, from a table that holds the directions of the segments: the law
 -- `folds-in-table` of the proofs says that they are the curve's.
-unfoldable pub cosine_in : Chain → ℕ → List Float → ℕ → Float
-cosine_in chain count table k = dot_of (vertex_of table k) (vertex_of table (after_of chain count k))
+unfoldable pub cosine_in : Chain → ℕ → List Point → ℕ → Float
+cosine_in chain count table k = dot_of (point_in table k) (point_in table (after_of chain count k))
 
-unfoldable pub no_fold_in : Chain → ℕ → ℕ → List Float → Bool
+unfoldable pub no_fold_in : Chain → ℕ → ℕ → List Point → Bool
 no_fold_in chain count corners table = every corners (λ k. not (is_fold (cosine_in chain count table k)))
 
 -- Each of the first `corners` corners lies between two segments of the curve.

@@ -1,13 +1,13 @@
 -- A curve's vertices and segments (document 01, 'Triangle lists': "m curve segments"; 'Frames and
 -- vertices'). An open curve has m segments between its m + 1 vertices. A closed one has N segments
 -- between its N vertices; the last is the closing one. Definitions only.
-use Rattle.std.specs.Prelude.{cond, List, ℕ, ◌+◌, ◌-◌, ◌*◌, ◌/◌, ltb, Float, length, get_or}
+use Rattle.std.specs.Prelude.{cond, List, [], ◌∷◌, ℕ, ◌+◌, ◌-◌, ◌*◌, ◌/◌, ltb, Float, length, get_or}
 use Rattle.std.specs.Float.{nan}
 use Rattle.laws.specs.Blocks.{blocks}
 use Rattle.surface.specs.Grid.{after_of}
 use Rattle.surface.specs.declared.grid.Chain.{Chain}
 use Rattle.surface.specs.declared.grid.Chain.TheVariants.{Open, Closed}
-use Rattle.vec3.specs.Points.{coordinates, difference_of, normalised}
+use Rattle.vec3.specs.Points.{difference_of, normalised}
 use Rattle.vec3.specs.declared.points.Point.{Point}
 
 -- how many whole vertices a curve has
@@ -39,5 +39,5 @@ unfoldable pub segment_direction : Chain → ℕ → List Float → ℕ → Poin
 segment_direction chain count c k = normalised (segment_of chain count c k)
 
 -- The table of the directions: each segment's, one after the other. A body's are worked out once.
-unfoldable pub directions_of : Chain → ℕ → List Float → List Float
-directions_of chain count c = blocks count (λ k. coordinates (segment_direction chain count c k))
+unfoldable pub directions_of : Chain → ℕ → List Float → List Point
+directions_of chain count c = blocks count (λ k. segment_direction chain count c k ∷ [])

@@ -1,7 +1,9 @@
 ghost use Rattle.std.specs.Prelude.{◌≡◌};
-ghost use Rattle.curve.specs.Checks.{segment_refused, segments_permitted, is_fold, cosine_in, no_fold_in};
+ghost use Rattle.curve.specs.Checks.{segment_refused, segments_permitted};
+ghost use Rattle.curve.specs.Checks.{is_fold, cosine_in, no_fold_in};
 
-use crate::segments::{Segments, vertex};
+use crate::directions::direction_in;
+use crate::segments::Segments;
 use vec3::Point;
 
 // Whether a segment is refused for its length (12).
@@ -31,18 +33,18 @@ impl Segments<'_> {
         (0..self.count).all(|k| !is_refused(self.at(k)))
     }
 
-    // Document 01's c at the corner where segment k ends: the dot of its direction with that of the
-    // segment after it. `directions` begins with the directions of all segments.
+    // Document 01's c at the corner where segment k ends: the dot of its direction with that of
+    // the segment after it. `directions` begins with the directions of all segments.
     #[tactic(auto, unfolding(crate::specs::Checks::cosine_in))]
-    fn corner_cosine(self, directions: &[f32], k: u16) -> f32
+    fn corner_cosine(self, directions: &[Point], k: u16) -> f32
         ensures { result ≡ cosine_in self.entry.chain self.entry.count directions.now k }
     {
-        vertex(directions, k as usize).dot(vertex(directions, self.end(k)))
+        direction_in(directions, k as usize).dot(direction_in(directions, self.end(k)))
     }
 
     // Whether none of the first `corners` corners is a fold (13). `directions` begins with the
     // directions of all segments.
-    pub fn has_no_fold(self, corners: u16, directions: &[f32]) -> bool
+    pub fn has_no_fold(self, corners: u16, directions: &[Point]) -> bool
         ensures { let s = self.entry in
             result ≡ no_fold_in s.chain s.count corners directions.now }
     {

@@ -2,13 +2,14 @@ ghost use Rattle.std.specs.Prelude.{◌≡◌, ◌+◌, ◌≤◌, length};
 ghost use Rattle.laws.specs.Overwrite.{overwrite};
 ghost use Rattle.surface.specs.Grid.{after_of};
 ghost use Rattle.vec3.specs.Points.{coordinates};
-ghost use Rattle.curve.specs.Segments.{vertices_in, segments_of, point_at, vertex_of, segment_of, segment_direction};
+ghost use Rattle.curve.specs.Segments.{vertices_in, segments_of, point_at};
+ghost use Rattle.curve.specs.Segments.{vertex_of, segment_of, segment_direction};
 
 use surface::Chain;
 use vec3::Point;
 
 // Reads the point whose coordinates begin at index `at`.
-pub fn point(floats: &[f32], at: usize) -> Point
+fn point(floats: &[f32], at: usize) -> Point
     requires { at + 3 ≤ length floats.now }
     ensures { result ≡ point_at floats.now at }
 {
@@ -34,8 +35,8 @@ pub fn put_point(out: &mut [f32], at: usize, p: Point)
 }
 
 // Vertex k, or NaNs if the curve has no vertex k. An `Option` would be no plainer: `vertex_of` has
-// a point for every k, so that segments and corners are defined for every k, and no caller asks
-// for a vertex past the end.
+// a point for every k, so that segments and corners are defined for every k. One caller asks for a
+// vertex past the end: a torus asks for vertex N at its last end, where it writes nothing.
 #[tactic(auto, unfolding(crate::specs::Segments::vertex_of))]
 pub fn vertex(curve: &[f32], k: usize) -> Point
     ensures { result ≡ vertex_of curve.now k }
@@ -59,7 +60,8 @@ pub fn segment_count(chain: Chain, vertices: usize) -> usize
 }
 
 // The segments of a lent curve, `count` of them. On an open curve each leads from a vertex to the
-// next; on a closed one the last leads back to the first vertex.
+// next; on a closed one the last leads back to the first vertex. The number is kept beside the
+// curve because loops read it, and it takes a division.
 #[derive(Clone, Copy, Debug)]
 pub struct Segments<'a> {
     pub chain: Chain,
@@ -84,10 +86,11 @@ impl<'a> Segments<'a> {
 }
 
 impl Segments<'_> {
-    // The number of the vertex at which segment k ends, and of the segment that begins there. It is
-    // k + 1, or 0 where the last segment of a closed curve leads back to the first vertex. The
-    // definition counts on round the loop for any k. No caller asks past the last segment, so the
-    // cases that need no division come first.
+    // The number of the vertex at which segment k ends, and of the segment that begins there. It
+    // is k + 1, or 0 where the last segment of a closed curve leads back to the first vertex. The
+    // definition counts on round the loop for any k, where surface's `Chain::after` asks for a k
+    // of the chain, and `corner_cosine` promises an answer for every k. The cases that need no
+    // division come first.
     pub(crate) fn end(self, k: u16) -> usize
         ensures { result ≡ after_of self.entry.chain self.entry.count k }
     {
@@ -111,7 +114,8 @@ impl Segments<'_> {
     // Segment k, normalised.
     #[tactic(auto, unfolding(crate::specs::Segments::segment_direction))]
     pub fn direction(self, k: u16) -> Point
-        ensures { let s = self.entry in result ≡ segment_direction s.chain s.count s.curve.now k }
+        ensures { let s = self.entry in
+            result ≡ segment_direction s.chain s.count s.curve.now k }
     {
         self.at(k).normalize()
     }

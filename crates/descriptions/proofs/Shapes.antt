@@ -1,7 +1,7 @@
 -- What it tells of a body's numbers that 10, 20 and 21 do not refuse them. Assumes nothing.
 use Rattle.std.proofs.Common.{◌≡◌, true, ◌&&◌, List, ℕ, ◌-◌, ◌%◌, ◌/◌, ◌≤◌, arith}
 use Rattle.std.proofs.Common.{Float, length, le-leb, eqb-true}
-use Rattle.laws.proofs.Conjunction.{both_true}
+use Rattle.std.proofs.lemmas.Bool.{and_parts}
 use Rattle.kinds.specs.Limits.{segment_count_permitted}
 use Rattle.kinds.specs.Kinds.{permitted}
 use Rattle.kinds.proofs.Bounds.{Bounds, bounds, between-true}
@@ -74,7 +74,7 @@ shape-bounds d N h = bounds (topology_of d N) (shape-permitted d N h)
 curve-shape : (d : Description) (c : List Float) → curve_permitted d c ≡ true → round_permitted d ≡ true
     → lengthwise_permitted d (length c / 3) ≡ true → (length c % 3 ≡ 0) × ShapePermitted d (length c / 3)
 curve-shape d c h round lengthwise =
-    let curve = both_true (whole_vertices c) (vertices_permitted d (length c / 3)) h in
+    let curve = and_parts (whole_vertices c) (vertices_permitted d (length c / 3)) h in
     (eqb-true (length c % 3) 0 curve.0, (curve.1, (round, (lengthwise, tt))))
 
 -- the same of what passes the tests up to 12, and of what passes 13 too

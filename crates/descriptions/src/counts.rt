@@ -8,7 +8,7 @@ use answers::Refusal;
 use kinds::Topology;
 
 // How many vertices and triangles a body has.
-#[derive(Clone, Copy, Debug, Default)]
+#[derive(Clone, Copy, Debug, Default, PartialEq, Eq)]
 pub struct Counts {
     pub vertices: u32,
     pub triangles: u32,

@@ -47,7 +47,8 @@ impl<'a> Shaped<'a> {
     // The curve's segments.
     pub fn segments(self) -> Segments<'a>
         ensures chain { result.chain ≡ curve_chain self.entry.description }
-        ensures count { result.count ≡ segment_count self.entry.description (length self.entry.curve.now / 3) }
+        ensures count { let s = self.entry in
+            result.count ≡ segment_count s.description (length s.curve.now / 3) }
         ensures curve { result.curve ≡ self.entry.curve }
     {
         Segments::along(self.description.chain(), self.curve)

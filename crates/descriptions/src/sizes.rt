@@ -5,7 +5,8 @@ use crate::description::Description;
 use crate::kind::Kind;
 
 // The sizes of a body of any kind. `size` is the width of a ribbon and the radius of the others,
-// `steps` the longitudes of a capsule and the layers of a closed cylinder.
+// `steps` the longitudes of a capsule and the layers of a closed cylinder. A record and the C
+// interface have all of these fields for every kind, so this is no enum of kinds.
 #[derive(Clone, Copy, Debug, Default)]
 pub struct Sizes {
     pub divisions: u32,

@@ -2,7 +2,7 @@
 -- no neighbour lack their reverse. Assumes nothing.
 use Rattle.std.proofs.Common.{◌≡◌, refl, sym, ap, ◌∙◌, subst₂, ◌⊎◌, inl, inr, Bool, true, false}
 use Rattle.std.proofs.Common.{not, ℕ, ◌+◌, ◌*◌, ◌/◌, ◌%◌, ◌≤◌, ◌<◌, eq-zero-or-pos, arith}
-use lib.Arith.{digits_div, digits_mod}
+use Rattle.std.proofs.Math.Arith.{digits_div, digits_mod}
 use Rattle.surface.specs.Grid.{after_of, points_of}
 use Rattle.surface.specs.declared.grid.Chain.{Chain}
 use Rattle.edges.specs.Edges.{Edge, ◌⟶◌, reverse, least_steps, ends}

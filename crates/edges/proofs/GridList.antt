@@ -1,7 +1,7 @@
 -- What is claimed of a grid's list of triangles. Assumes nothing.
 use Rattle.std.proofs.Common.{sum_by, ◌≡◌, sym, ap, ◌∙◌, ◌⊎◌, inl, inr, false, List, ℕ, ◌+◌, ◌*◌, ◌≤◌, ◌<◌}
 use Rattle.std.proofs.Common.{eq-zero-or-pos, arith}
-use lib.Arith.{digits_lt}
+use Rattle.std.proofs.Math.Arith.{digits_lt}
 use Rattle.surface.specs.Triangles.{Triangle}
 use Rattle.surface.specs.Grid.{after_of, points_of, row_triangles, grid_triangles}
 use Rattle.surface.specs.Quads.{quad_of}

@@ -1,7 +1,7 @@
 -- Totals over the edges of a list of triangles, as sums over its blocks. Assumes nothing.
 use Rattle.std.proofs.Common.{sum_by, ◌≡◌, refl, List, [], ◌∷◌, ◌++◌, Bool, true, false, ℕ, zero, suc, ◌+◌}
 use Rattle.std.proofs.Common.{◌≤◌, ◌<◌, arith, T, eqb, eqb→eq}
-use lib.Dec.{eqb_refl}
+use Rattle.std.proofs.Math.Dec.{eqb_refl}
 use Rattle.std.proofs.lemmas.List.Sums.{sum_by-append}
 use Rattle.laws.specs.Blocks.{blocks}
 use Rattle.surface.specs.Triangles.{Triangle, triangle}

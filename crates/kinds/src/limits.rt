@@ -1,8 +1,8 @@
 ghost use Rattle.std.specs.Prelude.{◌≡◌};
 ghost use Rattle.kinds.specs.Limits.{between};
 
-// The limits of one number of a body. A range of the standard library has the same method, but a
-// constant cannot be one: its value would be a call.
+// The limits of one number of a body. std's ranges have the same method, but `3..=256` is a call,
+// which no constant may be, and `3..257` does not name the greatest number that is permitted.
 #[derive(Clone, Copy, Debug, PartialEq, Eq)]
 pub struct Range {
     pub least: u16,

@@ -1,9 +1,8 @@
 -- The table of directions round a ring. Definitions only.
 use Rattle.std.specs.Prelude.{◌≡◌, List, ℕ, ◌≤◌, ◌<◌}
-use Rattle.vec3.specs.Points.{thrice}
+use Rattle.vec3.specs.Points.{thrice, point_in}
 use Rattle.vec3.specs.Turns.{turn_of}
 use Rattle.vec3.specs.declared.points.Point.{Point}
-use Rattle.rings.specs.Rings.{point_in}
 
 -- The directions round a ring, "(C, Sn) = turn(i, n)" (document 01, 'Frames and vertices'): each
 -- cosine three times, and each sine. "n outside 3 to 256" is refused (20), so that 256 of either

@@ -9,7 +9,7 @@ use rings::Cap;
 use surface::End;
 
 // Writes the rings of a capsule's cap to the front of `out`.
-#[tactic(auto, using(curve::proofs::Points::unwritten))]
+#[tactic(auto, using(laws::proofs::Overwrite::unwritten))]
 fn write_cap(out: &mut [f32], cap: Cap, turns: &Turns)
     requires { cap.longitudes * (turns.now * 3) ≤ length out.old }
     ensures { let rings = cap_rings cap.end cap.axes cap.radius cap.longitudes turns.now in
@@ -22,8 +22,8 @@ fn write_cap(out: &mut [f32], cap: Cap, turns: &Turns)
 }
 
 // Writes what stands at an end of a capsule's curve to the front of `out`: at the first vertex the
-// bottom pole, then the rings of the bottom cap; at the last the rings of the top cap, then the top
-// pole.
+// bottom pole, then the rings of the bottom cap; at the last the rings of the top cap, then the
+// top pole.
 pub fn write_end(out: &mut [f32], cap: Cap, turns: &Turns)
     requires { cap.longitudes * (turns.now * 3) + 3 ≤ length out.old }
     ensures { let vertices = end_vertices cap.end cap.axes cap.radius cap.longitudes turns.now in

@@ -1,9 +1,9 @@
 ghost use Rattle.std.specs.Prelude.{◌≡◌, ◌*◌, ◌≤◌, length};
 ghost use Rattle.laws.specs.Overwrite.{overwrite};
 ghost use Rattle.laws.specs.Blocks.{blocks};
-ghost use Rattle.vec3.specs.Points.{coordinates};
+ghost use Rattle.vec3.specs.Points.{coordinates, point_in};
 ghost use Rattle.rings.specs.Vertices.{ring_of, level_at};
-ghost use Rattle.rings.specs.Rings.{point_in, ring_vertex};
+ghost use Rattle.rings.specs.Rings.{ring_vertex};
 
 use crate::turns::Turns;
 use curve::put_point;
@@ -11,7 +11,7 @@ use rings::{Ring, level};
 use vec3::Point;
 
 // Writes four points one after the other to the front of `out`.
-#[tactic(auto, using(curve::proofs::Points::unwritten))]
+#[tactic(auto, using(laws::proofs::Overwrite::unwritten))]
 fn put_four(out: &mut [f32], points: [Point; 4])
     requires { 12 ≤ length out.old }
     ensures { let four = blocks 4 (λ k. coordinates (point_in points k)) in
@@ -24,7 +24,7 @@ fn put_four(out: &mut [f32], points: [Point; 4])
 
 // Writes a ring to the front of `out`. Most of its vertices are written four at a time, which
 // takes the processor less time than one by one.
-#[tactic(auto, using(curve::proofs::Points::unwritten))]
+#[tactic(auto, using(laws::proofs::Overwrite::unwritten))]
 pub fn write_ring(out: &mut [f32], ring: Ring, turns: &Turns)
     requires { turns.now * 3 ≤ length out.old }
     ensures { out.new ≡ overwrite 0 (ring_of (ring_vertex ring) turns.now) out.old }
@@ -41,7 +41,9 @@ pub fn write_ring(out: &mut [f32], ring: Ring, turns: &Turns)
 
 // Writes a closed cylinder's ring at height `y` to the front of `out`. It has a loop of its own:
 // one over a closure that gives the vertices would need as many lines for the closure's clauses.
-#[tactic(auto, using(curve::proofs::Points::unwritten))]
+// Radius and table go through the three functions of this body; a struct for the two would be
+// made for it alone.
+#[tactic(auto, using(laws::proofs::Overwrite::unwritten))]
 pub(crate) fn write_level(out: &mut [f32], radius: f32, y: f32, turns: &Turns)
     requires { turns.now * 3 ≤ length out.old }
     ensures { out.new ≡ overwrite 0 (ring_of (level_at radius y) turns.now) out.old }

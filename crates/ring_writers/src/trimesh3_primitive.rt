@@ -24,7 +24,7 @@ fn pole(y: f32) -> Point
 }
 
 // Writes the rings 0 to `layers`, from the bottom up, to the front of `out`.
-#[tactic(auto, using(curve::proofs::Points::unwritten))]
+#[tactic(auto, using(laws::proofs::Overwrite::unwritten))]
 fn write_levels(out: &mut [f32], radius: f32, low: f32, height: f32, layers: u16, turns: &Turns)
     requires layers_permitted { layers ≤ 4096 }
     requires room { (layers + 1) * (turns.now * 3) ≤ length out.old }

@@ -1,6 +1,7 @@
 ghost use Rattle.std.specs.Prelude.{◌≡◌, ℕ, ◌+◌, ◌*◌, ◌<◌, ◌≤◌, length};
+ghost use Rattle.vec3.specs.Points.{point_in};
 ghost use Rattle.vec3.specs.Turns.{turn_of};
-ghost use Rattle.rings.specs.Rings.{point_in, ring_vertex};
+ghost use Rattle.rings.specs.Rings.{ring_vertex};
 
 use rings::Ring;
 use std::array;
@@ -12,9 +13,10 @@ const MOST_DIVISIONS: usize = 256;
 
 // The directions round a ring of `divisions` vertices: the cosine of each and its sine, three
 // times each, so that a vertex multiplies point by point. A body fills this table once, for all
-// its rings. In a contract it is the number of its divisions, from which all else follows. Two
-// arrays and not one of pairs: four cosines stand in memory as three full vectors, and so do four
-// sines. From an array of pairs a ring took 1.28 to 1.34 times as long to write.
+// its rings. It has room for the most divisions, since the core has no heap. In a contract it is
+// the number of its divisions, from which all else follows. Two arrays and not one of pairs: four
+// cosines stand in memory as three full vectors, and so do four sines. From an array of pairs a
+// ring took 1.28 to 1.34 times as long to write.
 #[derive(Debug, Drop)]
 pub struct Turns {
     cosines: [Point; MOST_DIVISIONS],
@@ -99,7 +101,8 @@ impl Turns {
     // The vertices `i` to i + 3 of `ring`.
     pub(crate) fn four(&self, ring: Ring, i: usize) -> [Point; 4]
         requires { i + 4 ≤ self.now }
-        ensures { (k : ℕ) → k < 4 → point_in result k ≡ ring_vertex ring (turn_of (i + k) self.now) }
+        ensures { (k : ℕ) → k < 4
+            → point_in result k ≡ ring_vertex ring (turn_of (i + k) self.now) }
     {
         ring.four(four_at(&self.cosines, i), four_at(&self.sines, i))
     }

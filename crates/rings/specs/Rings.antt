@@ -1,11 +1,10 @@
 -- Rings as values, and the vertex of a ring in a direction: the formulas of document 01, 'Frames
 -- and vertices', as Vertices.antt quotes them, over a centre and a radius. Definitions only.
-use Rattle.std.specs.Prelude.{List, [], ◌∷◌, ℕ, ◌-◌, ◌*◌, Float, slice_index_or}
-use Rattle.std.specs.Float.{nan}
+use Rattle.std.specs.Prelude.{List, [], ◌∷◌, ℕ, ◌-◌, ◌*◌, Float}
 use Rattle.std.specs.Float.Ieee.{neg}
 use Rattle.surface.specs.declared.caps.End.{End}
 use Rattle.surface.specs.declared.caps.End.TheVariants.{Bottom, Top}
-use Rattle.vec3.specs.Points.{times, thrice, sum_of, scaled, product_of}
+use Rattle.vec3.specs.Points.{times, thrice, point_in, sum_of, scaled, product_of}
 use Rattle.vec3.specs.Turns.{turn_of}
 use Rattle.vec3.specs.declared.points.Point.{Point}
 use Rattle.vec3.specs.declared.turns.Direction.{Direction}
@@ -36,10 +35,6 @@ in_order SumFirst k cos sin = sum_first k cos sin
 
 abbrev pub ring_vertex : Ring → Direction → Point
 ring_vertex k d = in_order k.order k (thrice d.cos) (thrice d.sin)
-
--- point i of a list
-abbrev pub point_in : List Point → ℕ → Point
-point_in points i = slice_index_or points i (record { x = nan; y = nan; z = nan })
 
 -- four vertices of a ring
 abbrev pub four_of : (Point → Point → Point) → List Point → List Point → List Point

@@ -1,5 +1,6 @@
 ghost use Rattle.std.specs.Prelude.{◌≡◌};
-ghost use Rattle.rings.specs.Rings.{ring_around, two_terms, sum_first, in_order};
+ghost use Rattle.vec3.specs.Points.{thrice, product_of};
+ghost use Rattle.rings.specs.Rings.{ring_around, in_order};
 
 use crate::axes::Axes;
 use vec3::Point;
@@ -40,35 +41,25 @@ impl Ring {
         }
     }
 
-    // Adds two terms to the centre, `first` before `second`. A term is an axis times the product
-    // of the radius and a cosine or a sine. `a` and `b` hold the cosine and the sine, each of them
-    // three times, so that every coordinate takes the same steps: the processor then works out
-    // several coordinates, of several vertices, at a time.
-    #[tactic(auto, unfolding(crate::specs::Rings::two_terms))]
-    fn two_terms(self, first: Point, a: Point, second: Point, b: Point) -> Point
-        ensures { result ≡ two_terms self first a second b }
+    // What an axis adds to a vertex: the axis times the product of the radius and a cosine or a
+    // sine. `turn` holds that number three times, so that every coordinate takes the same steps:
+    // the processor then works out several coordinates, of several vertices, at a time.
+    fn term(self, axis: Point, turn: Point) -> Point
+        ensures { result ≡ product_of axis (product_of (thrice self.radius) turn) }
     {
-        let r = Point::thrice(self.radius);
-        self.centre + first.product(r.product(a)) + second.product(r.product(b))
+        axis.product(Point::thrice(self.radius).product(turn))
     }
 
-    // Adds ex times the cosine and ey times the sine, multiplies the sum by the radius, and adds
-    // that to the centre. `cos` and `sin` each hold their number three times, as in `two_terms`.
-    #[tactic(auto, unfolding(crate::specs::Rings::sum_first))]
-    fn sum_first(self, cos: Point, sin: Point) -> Point
-        ensures { result ≡ sum_first self cos sin }
-    {
-        self.centre + (self.ex.product(cos) + self.ey.product(sin)) * self.radius
-    }
-
-    // The vertex in a direction.
+    // The vertex in a direction, whose cosine and sine come three times each.
+    #[tactic(auto, unfolding(crate::specs::Rings::two_terms, crate::specs::Rings::sum_first))]
     pub fn vertex(self, cos: Point, sin: Point) -> Point
         ensures { result ≡ in_order self.order self cos sin }
     {
+        let Ring { centre, ex, ey, .. } = self;
         match self.order {
-            Order::EyFirst => self.two_terms(self.ey, cos, self.ex, sin),
-            Order::ExFirst => self.two_terms(self.ex, sin, self.ey, cos),
-            Order::SumFirst => self.sum_first(cos, sin),
+            Order::EyFirst => centre + self.term(ey, cos) + self.term(ex, sin),
+            Order::ExFirst => centre + self.term(ex, sin) + self.term(ey, cos),
+            Order::SumFirst => centre + (ex.product(cos) + ey.product(sin)) * self.radius,
         }
     }
 }

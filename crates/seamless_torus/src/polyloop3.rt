@@ -5,41 +5,42 @@ ghost use Rattle.surface.specs.declared.grid.Chain.TheVariants.{Closed};
 ghost use Rattle.swept_bodies.specs.Tables.{ClosedCurve};
 ghost use Rattle.twists.specs.Chosen.{found_for};
 ghost use Rattle.seamless_torus.specs.Frames.{FrameTable};
-ghost use Rattle.seamless_torus.specs.Polyloop3.{ends_of, ends_finite, twist_of, drawn_radius, seamless_vertices};
+ghost use Rattle.seamless_torus.specs.Polyloop3.{ends_of, ends_finite, twist_of};
+ghost use Rattle.seamless_torus.specs.Polyloop3.{drawn_radius, seamless_vertices};
 
 use crate::frames::{ends_at, fill_frames};
-use curve::point;
 use ring_writers::Turns;
 use rings::Axes;
 use surface::Chain;
 use swept_bodies::{Spine, Sweep};
 use twists::{Found, Twist, search, twisted};
-use vec3::Frame;
+use vec3::{Frame, Point};
 
 // Fills the table of frames and finds the twist of the loop.
-fn find_twist(spine: &Spine, frames: &mut [f32]) -> Found
+fn find_twist(spine: &Spine, frames: &mut [Point]) -> Found
     requires on_loop { spine.now.segments.chain ≡ Closed }
-    requires frames_room { spine.now.segments.count * 3 ≤ length frames.old }
+    requires frames_room { spine.now.segments.count ≤ length frames.old }
     ensures found { let ends = ends_of spine.now.segments.count spine.now.segments.curve.now in
         result ≡ found_for ends.c0 ends.s0 }
-    ensures frame_table { FrameTable spine.now.segments.count spine.now.segments.curve.now frames.new }
+    ensures frame_table { let s = spine.now.segments in
+        FrameTable s.count s.curve.now frames.new }
 {
     let last = fill_frames(spine, frames);
-    let first = Frame {
-        ex: point(frames, 0),
-    };
+    let first = Frame { ex: frames[0] };
     search(ends_at(last, spine.direction(0), first))
 }
 
 // Writes the rings at all vertices of the loop, from the table of the frames that were carried
 // along it.
-#[tactic(auto, using(curve::proofs::Points::unwritten))]
-fn write_rings(out: &mut [f32], sweep: &Sweep, frames: &[f32], twist: Twist)
+#[tactic(auto, using(laws::proofs::Overwrite::unwritten))]
+fn write_rings(out: &mut [f32], sweep: &Sweep, frames: &[Point], twist: Twist)
     requires on_loop { sweep.now.spine.segments.chain ≡ Closed }
-    requires frame_table { let s = sweep.now.spine.segments in FrameTable s.count s.curve.now frames.now }
+    requires frame_table { let s = sweep.now.spine.segments in
+        FrameTable s.count s.curve.now frames.now }
     requires room { sweep.now.spine.segments.count * (sweep.now.turns.now * 3) ≤ length out.old }
     ensures { let s = sweep.now.spine.segments in
-        let rings = seamless_vertices twist sweep.now.turns.now sweep.now.radius s.count s.curve.now in
+        let w = sweep.now in
+        let rings = seamless_vertices twist w.turns.now w.radius s.count s.curve.now in
         out.new ≡ overwrite 0 rings out.old }
 {
     // Copied, so that the compiler need not read it again after each ring that it writes.
@@ -49,9 +50,7 @@ fn write_rings(out: &mut [f32], sweep: &Sweep, frames: &[f32], twist: Twist)
     let count = spine.segments.count;
     for g in 0..count {
         let k = g as usize;
-        let carried = Frame {
-            ex: point(frames, k * 3),
-        };
+        let carried = Frame { ex: frames[k] };
         let ez = spine.direction(k);
         let frame = twisted(carried, ez, twist.share(g, count));
         sweep.write_ring(&mut out[k * size..], Axes::at(spine.vertex(k), frame, ez));
@@ -66,23 +65,23 @@ fn drawn_radius(radius: f32, finite: bool) -> f32
     if finite { radius } else { f32::NAN }
 }
 
-// Writes the vertices of a seamless torus to the front of `out`. `frames` is scratch space. Why it
-// takes no `Spine` stands at `write_open` of swept_bodies.
+// Writes the vertices of a seamless torus to the front of `out`. `frames` is scratch space, lent
+// since the core has no heap. Why it takes no `Spine` stands at `write_open` of swept_bodies.
 pub fn to_trimesh3_seamless_torus(
     out: &mut [f32],
     curve: &[f32],
-    directions: &[f32],
-    frames: &mut [f32],
+    directions: &[Point],
+    frames: &mut [Point],
     turns: &Turns,
     r: f32,
 )
     requires closed_curve { ClosedCurve curve.now directions.now }
-    requires frames_room { vertices_in curve.now * 3 ≤ length frames.old }
+    requires frames_room { vertices_in curve.now ≤ length frames.old }
     requires room { vertices_in curve.now * (turns.now * 3) ≤ length out.old }
     ensures { let c = curve.now in
         let N = vertices_in c in
-        out.new
-        ≡ overwrite 0 (seamless_vertices (twist_of N c) turns.now (drawn_radius r (ends_finite N c)) N c) out.old }
+        let radius = drawn_radius r (ends_finite N c) in
+        out.new ≡ overwrite 0 (seamless_vertices (twist_of N c) turns.now radius N c) out.old }
 {
     let spine = Spine::along(Chain::Closed, curve, directions);
     let found = find_twist(&spine, frames);

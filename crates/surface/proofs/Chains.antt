@@ -1,7 +1,7 @@
 -- Bounds on the points of a chain, and its steps to the next number. Assumes nothing.
 use Rattle.std.proofs.Common.{◌≡◌, refl, sym, ap, ◌∙◌, ℕ, ◌+◌, ◌-◌, ◌%◌, ◌≤◌, ◌<◌, mod-lt}
 use Rattle.std.proofs.Common.{mod-eq_of_lt, arith}
-use native.Mathlib.Nat.{mod_self}
+use Rattle.std.proofs.Math.Nat.{mod_self}
 use Rattle.surface.specs.Grid.{after_of, points_of, straight_of}
 use Rattle.surface.specs.declared.grid.Chain.{Chain}
 use Rattle.surface.specs.declared.grid.Chain.TheVariants.{Open, Closed}
@@ -15,13 +15,6 @@ after-lt Closed n i h = mod-lt (i + 1) (omega arith)
 pub points-bounds : (chain : Chain) (n : ℕ) → (n ≤ points_of chain n) × (points_of chain n ≤ n + 1)
 points-bounds Open n = (omega arith, omega arith)
 points-bounds Closed n = (omega arith, omega arith)
-
--- steps to the next number are no more than all steps; and where there is a step, there is a point
--- more than steps to the next number
-pub straight-bounds : (chain : Chain) (n : ℕ)
-    → (straight_of chain n ≤ n) × (0 < n → straight_of chain n + 1 ≤ points_of chain n)
-straight-bounds Open n = (omega arith, λ h. omega arith)
-straight-bounds Closed n = (omega arith, λ h. omega arith)
 
 pub straight-after : (chain : Chain) (n i : ℕ) → i < straight_of chain n → i + 1 ≡ after_of chain n i
 straight-after Open n i h = refl

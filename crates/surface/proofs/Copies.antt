@@ -1,21 +1,13 @@
 -- Copies within a buffer: what they read, and what they leave. Assumes nothing.
 use Rattle.std.proofs.Common.{◌≡◌, refl, sym, ap, ◌∙◌, List, [], ◌∷◌, ◌++◌, ℕ, zero, suc, ◌+◌, ◌-◌, ◌*◌}
-use Rattle.std.proofs.Common.{◌≤◌, arith, length, take, drop, zero-add, take_at}
-use lib.ListN.{length-map}
+use Rattle.std.proofs.Common.{◌≤◌, arith, length, take, drop, add-zero, zero-add, take_at}
+use Rattle.std.proofs.lemmas.List.{length-map}
 use Rattle.laws.specs.Overwrite.{overwrite}
 use Rattle.laws.proofs.Overwrite.{overwrite-none}
-use Rattle.laws.proofs.Lent.{part-written}
+use Rattle.laws.proofs.Lent.{overwrite-part, part-written}
 use Rattle.laws.specs.Blocks.{blocks}
 use Rattle.laws.proofs.Blocks.{length-blocks, blocks-cong, blocks-split, map-blocks, some_more}
 use Rattle.surface.specs.Raise.{raised, copy_of}
-
--- ---- a buffer in two parts
-
--- written to the front of the second part, numbers stand right behind the first
-pub joined : (at : ℕ) (new l : List ℕ) → take at l ++ overwrite 0 new (drop at l) ≡ overwrite at new l
-joined zero new l = refl
-joined (suc at) new [] = refl
-joined (suc at) new (n ∷ l) = ap (λ (r : List ℕ). n ∷ r) (joined at new l)
 
 -- what a list begins with, written there, changes nothing
 pub front-kept : (size : ℕ) (l : List ℕ) → l ≡ overwrite 0 (take size l) l
@@ -67,6 +59,6 @@ module _ (size rise : ℕ) (l t₀ : List ℕ) (sized : length l ≡ size) where
       → take (done * size) t ++ ys ≡ overwrite 0 (blocks (done + count) (copy_of rise l)) t₀
   copies-after done count {t} {v = v} before written is =
       some_more 0 done count size (copy_of rise l) t₀ (λ k _. length-map l (λ n. k * rise + n) ∙ sized) before
-      (sym (zero-add (done * size)))
-      (ap (λ (r : List ℕ). take (done * size) t ++ r) written ∙ joined (done * size) v t)
+      (add-zero (done * size) ∙ sym (zero-add (done * size)))
+      (ap (λ (r : List ℕ). take (done * size) t ++ r) written ∙ overwrite-part (done * size) 0 v t)
       is

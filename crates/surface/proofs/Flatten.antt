@@ -2,7 +2,6 @@
 use Rattle.std.proofs.Common.{◌-◌, ◌*◌, ◌≡◌, refl, sym, ap, ◌∙◌, List, [], ◌∷◌, ◌++◌, ℕ, zero, suc, ◌+◌}
 use Rattle.std.proofs.Common.{zero-add, length}
 use Rattle.laws.specs.Overwrite.{overwrite}
-use Rattle.laws.proofs.Overwrite.{overwrite-append}
 use Rattle.laws.specs.Blocks.{blocks}
 use Rattle.laws.proofs.Blocks.{one_more, all-written}
 use Rattle.laws.proofs.Lent.{lent-from}
@@ -38,16 +37,7 @@ pub blocks-written : (f : ℕ → List Triangle) (t₀ : List ℕ) {t : List ℕ
 blocks-written f t₀ {t} {i} {n} so e =
     all-written 0 (numbers f) t₀ so e ∙ ap (λ (l : List ℕ). overwrite 0 l t₀) (sym (flatten-blocks n f))
 
--- three lists of triangles, each written after the last, to the front of what is lent, are one
-pub three-written : (a b c : List Triangle) (t₀ : List ℕ) {t₁ ys zs : List ℕ} {low high : ℕ}
-    → let t₂ = put_mid low (length t₁ - low) t₁ ys in
-    t₁ ≡ overwrite 0 (flatten a) t₀ → ys ≡ overwrite 0 (flatten b) (part low (length t₁ - low) t₁)
-    → zs ≡ overwrite 0 (flatten c) (part high (length t₂ - high) t₂)
-    → low ≡ length (flatten a) → high ≡ low + length (flatten b) → put_mid high (length t₂ - high) t₂ zs ≡ overwrite 0 (flatten (a ++ (b ++ c))) t₀
-three-written a b c t₀ {t₁} {ys} {zs} {low} {high} first second third l h =
-    lent-from high (flatten c) (put_mid low (length t₁ - low) t₁ ys) third
-    ∙ (λ i. overwrite (h i) (flatten c) (lent-from low (flatten b) t₁ second i))
-    ∙ overwrite-append low (flatten b) (flatten c) t₁
-    ∙ (λ i. overwrite ((l ∙ sym (zero-add (length (flatten a)))) i) (flatten b ++ flatten c) (first i))
-    ∙ overwrite-append 0 (flatten a) (flatten b ++ flatten c) t₀
-    ∙ ap (λ (r : List ℕ). overwrite 0 r t₀) (ap (λ (r : List ℕ). flatten a ++ r) (sym (flatten-append b c)) ∙ sym (flatten-append a (b ++ c)))
+-- three lists of triangles, as they are written one after the other
+pub flatten-three : (a b c : List Triangle) → flatten a ++ (flatten b ++ flatten c) ≡ flatten (a ++ (b ++ c))
+flatten-three a b c =
+    ap (λ (r : List ℕ). flatten a ++ r) (sym (flatten-append b c)) ∙ sym (flatten-append a (b ++ c))

@@ -3,7 +3,7 @@
 use Rattle.std.proofs.Common.{refl, ap, ◌∙◌, ◌≡◌, sym, Bool, true, false, cond, ◌&&◌, true≢false, ℕ, ◌+◌, ◌*◌, ◌^◌}
 use Rattle.std.proofs.Common.{◌≤◌, arith, leb-true, leb}
 use Rattle.laws.proofs.Products.{next_row}
-use Rattle.laws.proofs.Conjunction.{both_true}
+use Rattle.std.proofs.lemmas.Bool.{and_parts}
 use Rattle.surface.specs.Grid.{points_of}
 use Rattle.surface.specs.Limits.{fits}
 use Rattle.surface.specs.Whole.{chain_of, is_capped, ring_size, grid_size, GridFits}
@@ -24,10 +24,10 @@ unfolding placeable fits
 placeable_true s first room h =
     let total = leb (surface_triangle_count s) (2 ^ 28) in
     let held = leb (3 * surface_triangle_count s) room in
-    let p = both_true (leb (first + surface_vertex_count s) (2 ^ 28)) (total && held) h in
+    let p = and_parts (leb (first + surface_vertex_count s) (2 ^ 28)) (total && held) h in
     record {
       numbers = leb-true (first + surface_vertex_count s) (2 ^ 28) p.0;
-      within = leb-true (3 * surface_triangle_count s) room (both_true total held p.1).1;
+      within = leb-true (3 * surface_triangle_count s) room (and_parts total held p.1).1;
     }
 
 module _ (s : Surface) (first room : ℕ) (held : SurfaceFits s first room) where

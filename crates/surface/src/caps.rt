@@ -25,6 +25,7 @@ pub fn cap_triangle(end: End, pole: u32, here: u32, next: u32) -> [u32; 3]
 
 // Writes the cap between `pole` and a ring of `n` vertices, whose first is `rim`, to the front of
 // `out`.
+#[tactic(auto, using(laws::proofs::Overwrite::unwritten))]
 pub(crate) fn write_cap(out: &mut [u32], end: End, n: u32, pole: u32, rim: u32)
     requires { CapFits n rim (length out.old) }
     ensures { out.new ≡ overwrite 0 (flatten (cap_triangles end n pole rim)) out.old }

@@ -52,6 +52,7 @@ impl Chain {
 
 // Writes a surface's row of quads between the rings whose first vertices are `low` and `high` to
 // the front of `out`.
+#[tactic(auto, using(laws::proofs::Overwrite::unwritten))]
 fn write_row(out: &mut [u32], s: Surface, low: u32, high: u32)
     requires { RowFits s.round s.columns low high (length out.old) }
     ensures { let row = row_triangles s.split s.round s.columns low high in
@@ -65,8 +66,8 @@ fn write_row(out: &mut [u32], s: Surface, low: u32, high: u32)
     }
 }
 
-// Writes rows between rings that follow one another to the front of `out`. The first row is made of
-// quads; each other row is the one before it, with the size of a ring added to its numbers.
+// Writes rows between rings that follow one another to the front of `out`. The first row is made
+// of quads; each other row is the one before it, with the size of a ring added to its numbers.
 fn write_rows(out: &mut [u32], s: Surface, rows: u32, base: u32)
     requires { RowsFit s.round rows s.columns base (length out.old) }
     ensures { let grid = grid_triangles s.split Open rows s.round s.columns base in

@@ -3,8 +3,9 @@ ghost use Rattle.laws.specs.Overwrite.{overwrite};
 ghost use Rattle.laws.specs.Blocks.{blocks};
 ghost use Rattle.surface.specs.Raise.{raised, copy_of, RaiseFits, RepeatFits};
 
-// Copies numbers to the front of `to`, with `rise` added to each. The loop is simple enough for the
-// compiler to add several numbers at a time.
+// Copies numbers to the front of `to`, with `rise` added to each. The loop is simple enough for
+// the compiler to add several numbers at a time.
+#[tactic(auto, using(laws::proofs::Overwrite::unwritten))]
 fn copy_raised(from: &[u32], to: &mut [u32], rise: u32)
     requires { RaiseFits rise from.now (length to.old) }
     ensures { to.new ≡ overwrite 0 (raised rise from.now) to.old }
@@ -14,9 +15,10 @@ fn copy_raised(from: &[u32], to: &mut [u32], rise: u32)
     }
 }
 
-// Makes `times` copies of the first `size` numbers, which are the first of them, each the one
-// before it raised by `rise`. Each turn copies all the copies that are made: a few long copies take
-// less time than many short ones. Their number doubles, so that no range counts the turns.
+// Fills the front of `out` with `times` copies, of which the first `size` numbers are the first.
+// Each copy is the one before it, with `rise` added to its numbers. Each turn copies all the
+// copies that there are, since a few long copies take less time than many short ones. Their number
+// doubles, so that no range counts the turns.
 pub(crate) fn repeat_raised(out: &mut [u32], size: usize, times: u32, rise: u32)
     requires { RepeatFits size times rise out.old }
     ensures { let first = take size out.old in

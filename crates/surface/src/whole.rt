@@ -2,7 +2,8 @@ ghost use Rattle.std.specs.Prelude.{◌≡◌, true, length};
 ghost use Rattle.laws.specs.Overwrite.{overwrite, placed};
 ghost use Rattle.surface.specs.Triangles.{flatten};
 ghost use Rattle.surface.specs.Whole.{chain_of, is_capped, ring_count, ring_size, placeable};
-ghost use Rattle.surface.specs.Whole.{surface_vertex_count, surface_triangle_count, surface_triangles};
+ghost use Rattle.surface.specs.Whole.{surface_vertex_count, surface_triangle_count};
+ghost use Rattle.surface.specs.Whole.{surface_triangles};
 ghost use Rattle.surface.specs.Whole.{SurfaceFits};
 
 use crate::caps::{End, write_cap};
@@ -29,6 +30,7 @@ impl Ending {
         }
     }
 
+    // Whether there is a cap at each end.
     fn is_capped(self) -> bool
         ensures { result ≡ is_capped self }
     {

@@ -3,10 +3,10 @@
 use Rattle.std.proofs.Common.{◌≡◌, refl, sym, ap, ◌∙◌, ◌+◌, List, ℕ, ◌-◌, ◌≤◌, ◌<◌, Float, arith, eq-eqb, ne_eqb}
 use Rattle.surface.specs.declared.grid.Chain.{Chain}
 use Rattle.surface.specs.declared.grid.Chain.TheVariants.{Open, Closed}
+use Rattle.vec3.specs.declared.points.Point.{Point}
 use Rattle.curve.specs.Segments.{segment_direction}
 use Rattle.curve.specs.Framex.{carried_of, carried_to}
 use Rattle.curve.proofs.Carry.{carried-next}
-use Rattle.swept_bodies.specs.Tables.{DirectionTable, EzTable}
 use Rattle.swept_bodies.specs.Swept.{axes_first, axes_inner, axes_last}
 use Rattle.swept_bodies.specs.Polyline3.{vtx2framex, framez, vtx2framey, axes_of}
 use Rattle.swept_bodies.specs.Polyloop3 as polyloop3
@@ -57,7 +57,3 @@ module _ (N : ℕ) (c : List Float) where
   pub axes-loop-first : axes_first Closed N c ≡ polyloop3.axes_of N c (polyloop3.vtx2framex N c 0) 0
   unfolding carried_of
   axes-loop-first = axes-on-loop 0
-
-  -- the table of a loop's directions is that of its ez
-  pub ez-on-loop : {directions : List Float} → DirectionTable Closed N c directions → EzTable Closed N c directions
-  ez-on-loop table = record { room = table.room; between = λ g l h. table.direction g h }

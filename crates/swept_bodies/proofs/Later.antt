@@ -1,10 +1,9 @@
 -- What a loop writes that goes over the numbers from 1 on, one block for each, behind block 0. The
 -- loops over the vertices between two segments are such loops. Assumes nothing.
-use Rattle.std.proofs.Common.{◌≡◌, sym, ap, ◌∙◌, List, ◌++◌, ℕ, ◌+◌, ◌-◌, ◌*◌, ◌≤◌, length, arith, zero-add}
+use Rattle.std.proofs.Common.{◌≡◌, sym, ap, ◌∙◌, List, ℕ, ◌+◌, ◌-◌, ◌*◌, ◌≤◌, length, arith}
 use Rattle.laws.specs.Blocks.{blocks}
 use Rattle.laws.specs.Overwrite.{overwrite}
 use Rattle.laws.proofs.Blocks.{one_more, all-written}
-use Rattle.laws.proofs.Overwrite.{written_behind}
 
 module _ {ℓ} {A : Type ℓ} where
   -- the blocks 1 to n
@@ -26,12 +25,3 @@ module _ {ℓ} {A : Type ℓ} where
   pub all_later : (at : ℕ) (f : ℕ → List A) (t₀ : List A) {t : List A} {g n : ℕ}
       → t ≡ overwrite at (later (g - 1) f) t₀ → g ≡ n → t ≡ overwrite at (later (n - 1) f) t₀
   all_later at f t₀ so e = all-written at (λ k. f (k + 1)) t₀ so (ap (λ (k : ℕ). k - 1) e)
-
-  -- three lists, each written behind the one before it
-  pub three-written : (x y z t₀ : List A) {t₁ t₂ t₃ : List A} {a b : ℕ}
-      → t₁ ≡ overwrite 0 x t₀ → length x ≡ a → t₂ ≡ overwrite a y t₁ → length y ≡ b → t₃ ≡ overwrite (a + b) z t₂
-      → t₃ ≡ overwrite 0 (x ++ (y ++ z)) t₀
-  three-written x y z t₀ {t₁} {t₂} {a = a} {b = b} first sized second sized' third =
-      written_behind 0 x (y ++ z) t₀ first sized
-      (written_behind (0 + a) y z t₁ (second ∙ ap (λ (k : ℕ). overwrite k y t₁) (sym (zero-add a))) sized'
-      (third ∙ ap (λ (k : ℕ). overwrite (k + b) z t₂) (sym (zero-add a))))

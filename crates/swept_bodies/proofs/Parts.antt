@@ -9,12 +9,9 @@ use Rattle.surface.specs.declared.grid.Chain.TheVariants.{Open, Closed}
 use Rattle.surface.specs.declared.caps.End.TheVariants.{Bottom, Top}
 use Rattle.vec3.specs.declared.turns.Direction.{Direction}
 use Rattle.vec3.specs.declared.points.Point.{Point}
-use Rattle.vec3.specs.declared.frames.Frame.{Frame}
-use Rattle.rings.specs.Vertices.{ring_of, torus_vertex}
+use Rattle.rings.specs.Vertices.{ring_of}
 use Rattle.rings.specs.Rings.{ring_vertex, ring_at}
 use Rattle.rings.specs.declared.axes.Axes.{Axes}
-use Rattle.rings.specs.declared.ring.Order.TheVariants.{SumFirst}
-use Rattle.rings.specs.declared.ring.Ring.{Ring}
 use Rattle.rings.proofs.RingVertices.{tube-vertices, torus-vertices}
 use Rattle.ring_writers.specs.Caps.{end_vertices}
 use Rattle.swept_bodies.specs.Swept.{order_of, ring_about, axes_inner, inner_rings, swept_vertices}
@@ -29,14 +26,6 @@ pub ring_made : (chain : Chain) (n : ℕ) (r : Float) (a : Axes)
     → ring_of (ring_vertex (ring_at (order_of chain) a r)) n ≡ ring_about chain n r a
 ring_made Open n r a = ap (λ (v : Direction → Point). ring_of v n) (tube-vertices a r)
 ring_made Closed n r a = ap (λ (v : Direction → Point). ring_of v n) (torus-vertices a r)
-
--- on a loop, of axes with any frame
-pub torus-ring : (n : ℕ) (r : Float) (N : ℕ) (c : List Float) (frame : Frame) (g : ℕ) {k : Ring} {a : Axes}
-    → k ≡ ring_at SumFirst a r → a ≡ polyloop3.axes_of N c frame g
-    → ring_of (ring_vertex k) n ≡ polyloop3.torus_ring n r N c frame g
-torus-ring n r N c frame g {k} {a} is at =
-    ap (λ (k : Ring). ring_of (ring_vertex k) n) is ∙ ring_made Closed n r a
-    ∙ ap (λ (a : Axes). ring_of (torus_vertex a r) n) at
 
 module _ (n : ℕ) (r : Float) (m : ℕ) (c : List Float) (h : 1 ≤ m) where
   -- the rings between two segments of an open curve

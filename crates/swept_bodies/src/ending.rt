@@ -5,14 +5,15 @@ ghost use Rattle.swept_bodies.specs.Tables.{EzTable};
 ghost use Rattle.swept_bodies.specs.Swept.{end_part, end_floats, swept_floats, swept_vertices};
 
 use crate::swept::Sweep;
-use curve::point;
 use ring_writers::write_end;
 use rings::{Axes, Cap};
 use surface::End;
+use vec3::Point;
 
-// What stands at the two ends of a body, before and behind the rings at the vertices between two
-// segments.
-#[derive(Clone, Copy, Debug)]
+// What stands at the two ends of a body, before and after the rings at the vertices between two
+// segments. The `Ending` of surface says how the triangles end, this one which vertices stand
+// there.
+#[derive(Clone, Copy, Debug, PartialEq, Eq)]
 pub(crate) enum Ending {
     // a tube: a ring at each end
     Rings,
@@ -35,10 +36,11 @@ impl Ending {
     }
 
     // Writes what stands at an end, with the axes there, to the front of `out`.
-    #[tactic(auto, using(curve::proofs::Points::unwritten))]
+    #[tactic(auto, using(laws::proofs::Overwrite::unwritten))]
     fn write(self, end: End, out: &mut [f32], sweep: &Sweep, axes: Axes)
         requires { end_floats self end (sweep.now.turns.now * 3) ≤ length out.old }
-        ensures { let part = end_part self end sweep.now.spine.segments.chain sweep.now.turns.now sweep.now.radius axes in
+        ensures { let w = sweep.now in
+            let part = end_part self end w.spine.segments.chain w.turns.now w.radius axes in
             out.new ≡ overwrite 0 part out.old }
     {
         match (self, end) {
@@ -56,13 +58,16 @@ impl Ending {
         }
     }
 
-    // Writes a body with these ends to the front of `out`: its first end, the rings at the vertices
-    // between two segments, its last end. `ez` is the table of ez at those vertices.
-    pub(crate) fn write_swept(self, out: &mut [f32], sweep: &Sweep, ez: &[f32])
-        requires ez_table { let s = sweep.now.spine.segments in EzTable s.chain s.count s.curve.now ez.now }
-        requires room { swept_floats self (sweep.now.turns.now * 3) sweep.now.spine.segments.count ≤ length out.old }
+    // Writes a body with these ends to the front of `out`: its first end, the rings at the
+    // vertices between two segments, its last end. `ez` is the table of ez at those vertices.
+    pub(crate) fn write_swept(self, out: &mut [f32], sweep: &Sweep, ez: &[Point])
+        requires ez_table { let s = sweep.now.spine.segments in
+            EzTable s.chain s.count s.curve.now ez.now }
+        requires room { let m = sweep.now.spine.segments.count in
+            swept_floats self (sweep.now.turns.now * 3) m ≤ length out.old }
         ensures { let s = sweep.now.spine.segments in
-            let body = swept_vertices self s.chain sweep.now.turns.now sweep.now.radius s.count s.curve.now in
+            let w = sweep.now in
+            let body = swept_vertices self s.chain w.turns.now w.radius s.count s.curve.now in
             out.new ≡ overwrite 0 body out.old }
     {
         // Copied, so that the compiler need not read it again after each ring that it writes.
@@ -75,7 +80,7 @@ impl Ending {
         self.write(End::Bottom, out, &sweep, spine.axes_on(0, first));
         let rest = &mut out[inner..];
         let last = spine.walk(first, rest, size, |g, carried, out| {
-            let axes = Axes::at(spine.vertex(g), carried.frame, point(ez, g * 3));
+            let axes = Axes::at(spine.vertex(g), carried.frame, ez[g]);
             sweep.write_ring(out, axes);
         });
         let top = &mut out[inner + (m - 1) * size..];

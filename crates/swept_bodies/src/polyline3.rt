@@ -16,25 +16,29 @@ use surface::Chain;
 use vec3::{Frame, Point};
 
 // Writes the vertices of a body along an open curve, with the given ends, to the front of `out`.
-// `ez` is scratch space.
+// `ez` is scratch space, here and below: the core has no heap, and only `bodies` knows how long it
+// must be.
 //
 // This function and those below, which have del-msh's names, take the curve and the table of its
 // directions, and not a `Spine` in place of the two. That would be no plainer: each would still
-// require that the spine is open, and its caller, which has the two, would first make a spine.
+// require that the spine is open, and `fill` of bodies, which calls them, would have to make a
+// spine for five of its six kinds, since the curve of a closed cylinder has no segment.
 fn write_open(
     ending: Ending,
     out: &mut [f32],
     curve: &[f32],
-    directions: &[f32],
-    ez: &mut [f32],
+    directions: &[Point],
+    ez: &mut [Point],
     turns: &Turns,
     r: f32,
 )
     requires open_curve { OpenCurve curve.now directions.now }
-    requires ez_room { (vertices_in curve.now - 1) * 3 ≤ length ez.old }
-    requires room { swept_floats ending (turns.now * 3) (vertices_in curve.now - 1) ≤ length out.old }
+    requires ez_room { vertices_in curve.now - 1 ≤ length ez.old }
+    requires room { let m = vertices_in curve.now - 1 in
+        swept_floats ending (turns.now * 3) m ≤ length out.old }
     ensures { let c = curve.now in
-        out.new ≡ overwrite 0 (swept_vertices ending Open turns.now r (vertices_in c - 1) c) out.old }
+        let body = swept_vertices ending Open turns.now r (vertices_in c - 1) c in
+        out.new ≡ overwrite 0 body out.old }
 {
     let spine = Spine::along(Chain::Open, curve, directions);
     spine.fill_framez(ez);
@@ -51,13 +55,13 @@ fn write_open(
 pub fn set_vtx2xyz_for_generalized_cylinder_open_end(
     out: &mut [f32],
     curve: &[f32],
-    directions: &[f32],
-    ez: &mut [f32],
+    directions: &[Point],
+    ez: &mut [Point],
     turns: &Turns,
     r: f32,
 )
     requires open_curve { OpenCurve curve.now directions.now }
-    requires ez_room { (vertices_in curve.now - 1) * 3 ≤ length ez.old }
+    requires ez_room { vertices_in curve.now - 1 ≤ length ez.old }
     requires room { (vertices_in curve.now - 1 + 1) * (turns.now * 3) ≤ length out.old }
     ensures { let c = curve.now in
         out.new ≡ overwrite 0 (tube_vertices turns.now r (vertices_in c - 1) c) out.old }
@@ -70,17 +74,19 @@ pub fn set_vtx2xyz_for_generalized_cylinder_open_end(
 pub fn to_trimesh3_capsule(
     out: &mut [f32],
     curve: &[f32],
-    directions: &[f32],
-    ez: &mut [f32],
+    directions: &[Point],
+    ez: &mut [Point],
     turns: &Turns,
     longitudes: u16,
     r: f32,
 )
     requires open_curve { OpenCurve curve.now directions.now }
-    requires ez_room { (vertices_in curve.now - 1) * 3 ≤ length ez.old }
-    requires capsule_fits { CapsuleFits (vertices_in curve.now - 1) turns.now longitudes (length out.old) }
+    requires ez_room { vertices_in curve.now - 1 ≤ length ez.old }
+    requires capsule_fits { let m = vertices_in curve.now - 1 in
+        CapsuleFits m turns.now longitudes (length out.old) }
     ensures { let c = curve.now in
-        out.new ≡ overwrite 0 (capsule_vertices turns.now longitudes r (vertices_in c - 1) c) out.old }
+        let body = capsule_vertices turns.now longitudes r (vertices_in c - 1) c in
+        out.new ≡ overwrite 0 body out.old }
 {
     let ending = Ending::Caps { longitudes };
     write_open(ending, out, curve, directions, ez, turns, r);
@@ -97,7 +103,7 @@ fn put_pair(out: &mut [f32], p: Point, frame: Frame, width: f32)
 }
 
 // Writes the vertices of a ribbon to the front of `out`.
-pub fn to_trimesh3_ribbon(out: &mut [f32], curve: &[f32], directions: &[f32], width: f32)
+pub fn to_trimesh3_ribbon(out: &mut [f32], curve: &[f32], directions: &[Point], width: f32)
     requires open_curve { OpenCurve curve.now directions.now }
     requires room { (vertices_in curve.now - 1 + 1) * 6 ≤ length out.old }
     ensures { let c = curve.now in

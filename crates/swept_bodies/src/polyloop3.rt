@@ -9,11 +9,19 @@ use crate::spine::Spine;
 use crate::swept::Sweep;
 use ring_writers::Turns;
 use surface::Chain;
+use vec3::Point;
 
-// Writes the vertices of a torus to the front of `out`. On a torus, ez at a vertex is the direction
-// of the segment that leaves it, so the table of directions serves as the table of ez.
+// Writes the vertices of a torus to the front of `out`. On a torus, ez at a vertex is the
+// direction of the segment that leaves it, so the table of directions serves as the table of ez.
+// Why it takes no `Spine` stands at `write_open` of polyline3.rt.
 #[tactic(auto, using(crate::proofs::Parts::torus_parts))]
-pub fn to_trimesh3_torus(out: &mut [f32], curve: &[f32], directions: &[f32], turns: &Turns, r: f32)
+pub fn to_trimesh3_torus(
+    out: &mut [f32],
+    curve: &[f32],
+    directions: &[Point],
+    turns: &Turns,
+    r: f32,
+)
     requires closed_curve { ClosedCurve curve.now directions.now }
     requires room { vertices_in curve.now * (turns.now * 3) ≤ length out.old }
     ensures { let c = curve.now in

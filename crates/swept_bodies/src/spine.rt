@@ -1,28 +1,31 @@
 ghost use Rattle.std.specs.Prelude.{◌≡◌, ◌-◌, ◌*◌, ◌≤◌, ◌<◌, length};
 ghost use Rattle.surface.specs.declared.grid.Chain.TheVariants.{Open};
-ghost use Rattle.curve.specs.Segments.{vertices_in, segments_of, vertex_of, segment_direction};
+ghost use Rattle.curve.specs.Segments.{vertices_in, segments_of};
+ghost use Rattle.curve.specs.Segments.{vertex_of, segment_direction};
 ghost use Rattle.curve.specs.Framex.{carried_of};
 ghost use Rattle.swept_bodies.specs.Swept.{axes_on};
 ghost use Rattle.swept_bodies.specs.Walks.{MayWrite, Written};
 ghost use Rattle.swept_bodies.specs.Tables.{DirectionTable, SweptCurve, EzTable};
 
-use curve::{Carried, Segments, point, put_point};
+use curve::{Carried, Segments};
 use rings::{Axes, framez};
 use surface::Chain;
 use vec3::Point;
 
-// The segments of a curve along which a body lies, one at least, and the table of their directions.
+// The segments of a curve along which a body lies, one at least, and the table of their
+// directions.
 #[derive(Clone, Copy, Debug)]
 pub struct Spine<'a> {
     pub segments: Segments<'a>,
-    pub directions: &'a [f32],
+    pub directions: &'a [Point],
     pub ghost segment: { 1 ≤ segments.count },
-    pub ghost table: { DirectionTable segments.chain segments.count segments.curve.now directions.now },
+    pub ghost table: { let s = segments in
+        DirectionTable s.chain s.count s.curve.now directions.now },
 }
 
 impl<'a> Spine<'a> {
     // All segments of a curve, with their directions.
-    pub fn along(chain: Chain, curve: &'a [f32], directions: &'a [f32]) -> Self
+    pub fn along(chain: Chain, curve: &'a [f32], directions: &'a [Point]) -> Self
         requires { SweptCurve chain curve.now directions.now }
         ensures chain { result.segments.chain ≡ chain }
         ensures count { result.segments.count ≡ segments_of chain (vertices_in curve.now) }
@@ -44,9 +47,10 @@ impl<'a> Spine<'a> {
     // The direction of segment `k`.
     pub fn direction(&self, k: usize) -> Point
         requires { k < self.now.segments.count }
-        ensures { let s = self.now.segments in result ≡ segment_direction s.chain s.count s.curve.now k }
+        ensures { let s = self.now.segments in
+            result ≡ segment_direction s.chain s.count s.curve.now k }
     {
-        point(self.directions, k * 3)
+        self.directions[k]
     }
 
     // What is carried on the first segment.
@@ -59,22 +63,25 @@ impl<'a> Spine<'a> {
 
     // Carries the frame from the first segment, where `first` is carried, to the last, and answers
     // what is carried there. On each segment after the first it calls `write` with the segment's
-    // number, what is carried on it, and what is left of `out`: each segment has `size` floats.
-    // Nowhere else are frames carried along a curve.
-    #[tactic(auto, using(curve::proofs::Points::unwritten, crate::proofs::Axes::carried_after))]
-    pub fn walk<F: Fn(usize, Carried, &mut [f32])>(
+    // number, what is carried on it, and what is left of `out`: each segment has `size` elements.
+    // The walk begins after the first segment, since a capsule's first end is no ring and has
+    // another size. Nowhere else but where a loop closes are frames carried along a curve.
+    #[tactic(auto, using(laws::proofs::Overwrite::unwritten, crate::proofs::Axes::carried_after))]
+    pub fn walk<T, F: Fn(usize, Carried, &mut [T])>(
         &self,
         first: Carried,
-        out: &mut [f32],
+        out: &mut [T],
         size: usize,
         write: F,
     ) -> Carried
-        requires first { let s = self.now.segments in first ≡ carried_of s.chain s.count s.curve.now 0 }
+        requires first { let s = self.now.segments in
+            first ≡ carried_of s.chain s.count s.curve.now 0 }
         requires room { (self.now.segments.count - 1) * size ≤ length out.old }
         requires write { MayWrite self.now.segments size (F.pre write) }
         ensures carried { let s = self.now.segments in
             result ≡ carried_of s.chain s.count s.curve.now (s.count - 1) }
-        ensures written { let s = self.now.segments in Written s s.count size out.old out.new (F.post write) }
+        ensures written { let s = self.now.segments in
+            Written s s.count size out.old out.new (F.post write) }
     {
         let mut carried = first;
         for g in 1..self.segments.count as usize {
@@ -93,17 +100,16 @@ impl<'a> Spine<'a> {
     }
 
     // Fills the table of ez at an open curve's vertices between two segments, the one at vertex g
-    // from index 3g on. It is filled before the first ring is written, because square roots that
-    // wait neither for each other nor for a ring take a third of the time.
-    #[tactic(auto, using(curve::proofs::Points::unwritten))]
-    pub(crate) fn fill_framez(&self, out: &mut [f32])
+    // at index g. It is filled before the first ring is written, because square roots that wait
+    // neither for each other nor for a ring take a third of the time.
+    #[tactic(auto, using(laws::proofs::Overwrite::unwritten))]
+    pub(crate) fn fill_framez(&self, out: &mut [Point])
         requires open { self.now.segments.chain ≡ Open }
-        requires room { self.now.segments.count * 3 ≤ length out.old }
+        requires room { self.now.segments.count ≤ length out.old }
         ensures { let s = self.now.segments in EzTable s.chain s.count s.curve.now out.new }
     {
         for g in 1..self.segments.count as usize {
-            let ez = framez(self.direction(g - 1), self.direction(g));
-            put_point(out, g * 3, ez);
+            out[g] = framez(self.direction(g - 1), self.direction(g));
         }
     }
 }

@@ -30,7 +30,8 @@ impl Sweep<'_> {
     #[tactic(auto, using(crate::proofs::Parts::ring_made))]
     pub fn write_ring(&self, out: &mut [f32], axes: Axes)
         requires { self.now.turns.now * 3 ≤ length out.old }
-        ensures { let ring = ring_about self.now.spine.segments.chain self.now.turns.now self.now.radius axes in
+        ensures { let w = self.now in
+            let ring = ring_about w.spine.segments.chain w.turns.now w.radius axes in
             out.new ≡ overwrite 0 ring out.old }
     {
         let ring = Ring::around(self.order(), axes, axes.origin, self.radius);

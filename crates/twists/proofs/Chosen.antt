@@ -1,10 +1,9 @@
 -- The twist that the search chooses is one of the best. The places from 0 to 4095 are the twists,
 -- each once, and the leader after all places has a score that no other is above. Assumes nothing.
-use Rattle.std.proofs.Common.{◌≡◌, refl, sym, ap, ◌∙◌, Bool, true, false, ◌&&◌, cond, ℕ, ◌+◌, ◌-◌, ◌<◌, not-suc-le-zero, arith, leb-true, leb-false, le-leb, leb, Float}
-use Rattle.std.proofs.lemmas.Bool.{lt-leb}
+use Rattle.std.proofs.Common.{◌≡◌, refl, sym, ap, ◌∙◌, Bool, true, false, ◌&&◌, cond, ℕ, ◌+◌, ◌-◌, ◌<◌, not-suc-le-zero, arith, leb-true, leb-false, le-leb, leb, T, Float}
+use Rattle.std.proofs.lemmas.Bool.{lt-leb, and_parts}
 use Rattle.std.specs.Float.Ieee.{le}
 use Rattle.std.specs.Float.Ieee.Scale.{finite}
-use Rattle.laws.proofs.Conjunction.{both_true}
 use Rattle.laws.specs.Every.{every}
 use Rattle.laws.proofs.Every.{every-each, each-every}
 use Rattle.twists.specs.Twists.{forward, backwards, is_twist, score_of, Best, twist_at, scores_finite}
@@ -42,7 +41,7 @@ placed k = go k.steps k.backward
         let l = leb-true n 2048 h in
         record { within = omega arith; twist = rw (le-leb n 2048 l) }
     go n true h =
-        let both = both_true (leb 1 n) (leb n 2047) h in
+        let both = and_parts (leb 1 n) (leb n 2047) h in
         let l = leb-true 1 n both.0 in
         let m = leb-true n 2047 both.1 in
         let e : 2048 + n - 2048 ≡ n = omega arith in
@@ -56,7 +55,7 @@ finite-at : (c0 s0 : Float) → scores_finite c0 s0 ≡ true → (i : ℕ) → i
 unfolding scores_finite
 finite-at c0 s0 h =
     let f : ℕ → Bool = λ i. finite (score_at c0 s0 i) in
-    every-each 4096 f (both_true (finite c0 && finite s0) (every 4096 f) h).1
+    every-each 4096 f (and_parts (finite c0 && finite s0) (every 4096 f) h).1
 
 -- Where the scores are finite, that of each twist is.
 pub scores-each : (c0 s0 : Float) → scores_finite c0 s0 ≡ true → (k : Twist) → is_twist k ≡ true
@@ -74,6 +73,10 @@ each-scores c0 s0 c s each =
     λ i. (c i && s i) && all i
 
 -- ---- the chosen twist
+is_true : (b : Bool) → T b → b ≡ true
+is_true true h = refl
+is_true false h = absurd h
+
 leads-first : (c0 s0 : Float) → Leading (score_at c0 s0) 4096 0 (leader_at c0 s0 0)
 unfolding twist_at
 leads-first c0 s0 = record { within = omega arith; own = refl; greatest = λ k h. absurd (not-suc-le-zero h) }
@@ -91,5 +94,5 @@ chosen-best c0 s0 h =
     record {
       within = twist-within leader.place last.within;
       greatest = λ k is. let p = placed k is in
-          (λ i. le (score (sym p.twist i)) (sym last.own i)) ∙ last.greatest (place_of k) p.within;
+          (λ i. le (score (sym p.twist i)) (sym last.own i)) ∙ is_true _ (last.greatest (place_of k) p.within);
     }

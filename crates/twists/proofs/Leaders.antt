@@ -1,12 +1,13 @@
 -- How the leader changes with one more score and with a block of them, and that no score tried is
 -- above its own: all by induction on how many were tried. Assumes nothing.
-use Rattle.std.proofs.Common.{◌≡◌, refl, sym, ap, ◌∙◌, Bool, true, false, not, cond, ⊎_elim, ℕ, zero, suc, ◌+◌, ◌≤◌, ◌<◌, zero-add, add-zero, add-suc, add_assoc, le_of_suc-le-suc, eq-or-lt_of_le, add-one, arith, Float}
-use Rattle.std.proofs.lemmas.Bool.{not-true}
-use Rattle.std.specs.Float.Ieee.{lt, le}
+use Rattle.std.proofs.Common.{◌≡◌, refl, sym, ap, ◌∙◌, subst, Bool, true, false, not, cond, ⊎_elim, ℕ, zero, suc, ◌+◌, ◌≤◌, ◌<◌, zero-add, add-zero, add-suc, add_assoc, le_of_suc-le-suc, eq-or-lt_of_le, add-one, arith, Float}
+use Rattle.std.proofs.lemmas.Bool.{not-true, and_parts}
+use Rattle.std.proofs.lemmas.Float.{le_of_lt, le_of_not-lt, le_refl, le_trans, T_from_true, T_from_false}
+use Rattle.std.specs.Float.{◌≤ᶠ◌}
+use Rattle.std.specs.Float.Ieee.{lt}
 use Rattle.std.specs.Float.Ieee.Scale.{finite}
-use Rattle.laws.proofs.Conjunction.{both_true}
 use Rattle.laws.specs.Every.{every}
-use Rattle.float32.proofs.Order.{lt-le, not-lt-le, le_refl, le_trans}
+use Rattle.float32.proofs.Order.{finite-not-nan}
 use Rattle.twists.specs.Leaders.{led_once, leads}
 use Rattle.twists.specs.declared.leader.Leader.{Leader}
 
@@ -41,7 +42,7 @@ pub leads-none : (f : ℕ → Float) (base n : ℕ) (b : Leader) → every n (λ
     → leads f base n b ≡ b
 leads-none f base zero b h = refl
 leads-none f base (suc n) b h =
-    let both = both_true (every n (λ k. not (lt b.score (f k)))) (not (lt b.score (f n))) h in
+    let both = and_parts (every n (λ k. not (lt b.score (f k)))) (not (lt b.score (f n))) h in
     ap (led_once (base + n) (f n)) (leads-none f base n b both.0)
     ∙ led-kept (base + n) (f n) b (not-true (lt b.score (f n)) both.1)
 
@@ -65,13 +66,13 @@ leads-block f g base m n b {now} same before is =
 pub record Leading (f : ℕ → Float) (many n : ℕ) (b : Leader) : Type 0 where
   pub within : b.place < many
   pub own : b.score ≡ f b.place
-  pub greatest : (k : ℕ) → k < n → le (f k) b.score ≡ true
+  pub greatest : (k : ℕ) → k < n → f k ≤ᶠ b.score
 
 -- A score that is at least each before place n, and that of place n, is at least each up to it.
-up-to-this : (f : ℕ → Float) (n : ℕ) (most : Float) → ((k : ℕ) → k < n → le (f k) most ≡ true) → le (f n) most ≡ true
-    → (k : ℕ) → k < suc n → le (f k) most ≡ true
+up-to-this : (f : ℕ → Float) (n : ℕ) (most : Float) → ((k : ℕ) → k < n → f k ≤ᶠ most) → f n ≤ᶠ most
+    → (k : ℕ) → k < suc n → f k ≤ᶠ most
 up-to-this f n most before this k h =
-    ⊎_elim (λ same. ap (λ (j : ℕ). le (f j) most) same ∙ this) (before k) (eq-or-lt_of_le (le_of_suc-le-suc h))
+    ⊎_elim (λ same. subst (λ (j : ℕ). f j ≤ᶠ most) (sym same) this) (before k) (eq-or-lt_of_le (le_of_suc-le-suc h))
 
 module _ (f : ℕ → Float) (many : ℕ) (number : (k : ℕ) → k < many → finite (f k) ≡ true) where
   leading-next : (n : ℕ) (b : Leader) → n < many → Leading f many n b
@@ -86,14 +87,16 @@ module _ (f : ℕ → Float) (many : ℕ) (number : (k : ℕ) → k < many → f
         within = omega arith;
         own = ap f (sym (zero-add n));
         greatest = up-to-this f n (f n)
-            (λ k g. le_trans (f k) b.score (f n) (number k (omega arith)) number-b (number n h)
-            (now.greatest k g) (lt-le b.score (f n) l))
-            (le_refl (f n) (number n h));
+            (λ k g. le_trans (f k) b.score (f n) (now.greatest k g)
+            (le_of_lt b.score (f n) (T_from_true (lt b.score (f n)) l)))
+            (le_refl (f n) (finite-not-nan (f n) (number n h)));
       })
       go false l = rw (led-kept (0 + n) (f n) b l) (record {
         within = now.within;
         own = now.own;
-        greatest = up-to-this f n b.score now.greatest (not-lt-le b.score (f n) number-b (number n h) l);
+        greatest = up-to-this f n b.score now.greatest
+            (le_of_not-lt b.score (f n) (finite-not-nan b.score number-b) (finite-not-nan (f n) (number n h))
+            (T_from_false (lt b.score (f n)) l));
       })
 
   pub leading : (n : ℕ) (b : Leader) → n ≤ many → Leading f many 0 b → Leading f many n (leads f 0 n b)

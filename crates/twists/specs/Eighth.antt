@@ -23,7 +23,3 @@ sine_at i = (eighth_of i).sin
 -- a list holds f 0, f 1 and so on at its first n places
 abbrev pub Tabulates : ℕ → (ℕ → Float) → List Float → Type 0
 Tabulates n f list = (i : ℕ) → i < n → get_or list i nan ≡ f i
-
--- at each of its first n places j a list holds f i, for an i such that `gives j i`
-abbrev pub TabulatesAt : ℕ → (ℕ → ℕ → Type 0) → (ℕ → Float) → List Float → Type 0
-TabulatesAt n gives f list = (j : ℕ) → j < n → (i : ℕ) × gives j i × (get_or list j nan ≡ f i)

@@ -8,7 +8,7 @@ use crate::scores::OCTANT;
 use crate::twist::{Twist, twist_at};
 
 // What the search found: the twist, and whether c0, s0 and all scores are finite. The flag stands
-// beside the twist, since a body is drawn with its twist even where not all are finite.
+// beside the twist, since the definitions name a twist for every loop, finite or not.
 #[derive(Clone, Copy, Debug)]
 pub struct Found {
     pub twist: Twist,

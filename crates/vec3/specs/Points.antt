@@ -1,10 +1,10 @@
 -- Points: each operation rounded once, in the order written (document 01, 'Arithmetic').
 -- Definitions only.
-use Rattle.std.specs.Prelude.{List, [], ◌∷◌, Float}
+use Rattle.std.specs.Prelude.{List, [], ◌∷◌, ℕ, Float, slice_index_or}
 use Rattle.vec3.specs.declared.points.Point.{Point}
 use Rattle.float32.specs.Root.{root_of}
 use Rattle.std.specs.Float.Ieee as Ieee
-use Rattle.std.specs.Float.{binary32}
+use Rattle.std.specs.Float.{binary32, nan}
 
 -- the four operations of an `f32`
 abbrev pub plus : Float → Float → Float
@@ -26,6 +26,10 @@ thrice k = record { x = k; y = k; z = k }
 -- "Vertices are three f32 each" ('The shared set').
 abbrev pub coordinates : Point → List Float
 coordinates p = p.x ∷ p.y ∷ p.z ∷ []
+
+-- point i of a list, or NaNs where the list has no point i
+abbrev pub point_in : List Point → ℕ → Point
+point_in points i = slice_index_or points i (record { x = nan; y = nan; z = nan })
 
 -- component by component
 unfoldable pub sum_of : Point → Point → Point

@@ -30,7 +30,7 @@ fn perpendicular(u: Point) -> Point
 }
 
 impl Frame {
-    // v is the difference of the first segment's ends.
+    // The frame on the first segment of a curve, v being the difference of its ends.
     #[tactic(auto, unfolding(crate::specs::Frames::first_frame))]
     pub fn first(v: Point) -> Frame
         ensures { result ≡ first_frame v }
@@ -38,7 +38,7 @@ impl Frame {
         Frame::beside(v.normalize())
     }
 
-    // The same, of that difference normalised.
+    // The same, by that difference normalised.
     #[tactic(auto, unfolding(crate::specs::Frames::frame_beside))]
     pub fn beside(u: Point) -> Frame
         ensures { result ≡ frame_beside u }
@@ -48,7 +48,7 @@ impl Frame {
         }
     }
 
-    // From the segment along u to the segment along w, both normalised.
+    // Carries the frame from the segment along u to the segment along w, both normalised.
     #[tactic(auto, unfolding(crate::specs::Frames::transported))]
     pub fn transport(self, u: Point, w: Point) -> Frame
         ensures { result ≡ transported self u w }

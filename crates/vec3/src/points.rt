@@ -1,6 +1,6 @@
 ghost use Rattle.std.specs.Prelude.{◌≡◌};
-ghost use Rattle.vec3.specs.Points.{thrice, sum_of, difference_of, scaled, product_of, quotient_of};
-ghost use Rattle.vec3.specs.Points.{dot_of, cross_of, norm_of, normalised};
+ghost use Rattle.vec3.specs.Points.{thrice, sum_of, difference_of, scaled, product_of};
+ghost use Rattle.vec3.specs.Points.{quotient_of, dot_of, cross_of, norm_of, normalised};
 
 use std::ops::{Add, Div, Mul, Sub};
 

@@ -1,5 +1,6 @@
 ghost use Rattle.std.specs.Prelude.{◌≡◌, ◌<◌, ◌≤◌};
-ghost use Rattle.vec3.specs.Turns.{part_of, sine_of, cosine_of, within_octant, in_octant, direction_of, turn_of};
+ghost use Rattle.vec3.specs.Turns.{part_of, sine_of, cosine_of, within_octant};
+ghost use Rattle.vec3.specs.Turns.{in_octant, direction_of, turn_of};
 
 // The cosine and the sine of an angle.
 #[derive(Clone, Copy, Debug)]
@@ -77,7 +78,8 @@ fn direction_of(k: u32, n: u32) -> Direction
     in_octant(o, d.cos, d.sin)
 }
 
-// The direction of k / n turn, for k < n ≤ 2 ^ 24; of no turn for other k and n.
+// The direction of k / n turn, for k < n ≤ 2 ^ 24. For other k and n it answers the direction of
+// no turn and not an Option, since C's functions have to answer a number for every k and n.
 #[tactic(auto, unfolding(crate::specs::Turns::turn_of))]
 pub fn turn(k: u32, n: u32) -> Direction
     ensures { result ≡ turn_of k n }

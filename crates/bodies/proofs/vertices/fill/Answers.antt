@@ -22,5 +22,6 @@ to_trimesh3_capsule-requires c =
     record {
       open_curve = all.0;
       ez_room = search rules;
-      capsule_fits = subst (λ (n : ℕ). CapsuleFits (vertices_in curve - 1) n c.in-Capsule.l room) (sym turns) all.1;
+      capsule_fits = subst (λ (n : ℕ). CapsuleFits (vertices_in curve - 1) n c.in-Capsule.longitudes room) (sym turns)
+          all.1;
     }

@@ -1,7 +1,7 @@
 -- Each turn of the loop writes one point after those before it. Assumes nothing.
 use Rattle.std.proofs.Common.{refl, arith}
 use Rattle.curve.proofs.Points.{point_written}
-use Rattle.rings.specs.Rings.{point_in}
+use Rattle.vec3.specs.Points.{point_in}
 use Rattle.ring_writers.proofs.ring_writer.put_four.Goals as goal
 
 pub loop-k-preserved : goal.loop-k-preserved

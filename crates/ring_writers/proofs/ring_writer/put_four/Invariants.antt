@@ -2,8 +2,7 @@
 use Rattle.std.proofs.Common.{◌≡◌}
 use Rattle.laws.specs.Overwrite.{overwrite}
 use Rattle.laws.specs.Blocks.{blocks}
-use Rattle.vec3.specs.Points.{coordinates}
-use Rattle.rings.specs.Rings.{point_in}
+use Rattle.vec3.specs.Points.{coordinates, point_in}
 use Rattle.ring_writers.proofs.ring_writer.put_four.Given as goal
 
 abbrev pub invariant-loop-k : goal.invariant-loop-k

@@ -1,7 +1,7 @@
 -- Pole, rings and pole, each written after the one before. Assumes nothing.
 use Rattle.std.proofs.Common.{refl, sym, ap, ◌∙◌, List, ◌++◌, ◌+◌, Float}
 use Rattle.laws.specs.Overwrite.{overwrite}
-use Rattle.laws.proofs.Overwrite.{written_behind}
+use Rattle.laws.proofs.Overwrite.{three-written}
 use Rattle.laws.proofs.Lent.{lent-from}
 use Rattle.vec3.specs.Points.{coordinates, plus}
 use Rattle.rings.specs.Vertices.{level_vertex, pole}
@@ -21,8 +21,7 @@ returns c =
     let put = rw c.pole.ensures at c.put_point.ensures in
     let put-top = rw (c.pole-2.ensures, c.ring_floats.ensures.same) at c.put_point-2.ensures in
     let below = c.put_point.new.out in
-    let above = written_behind 3 rings top below (lent-from 3 rings below c.write_levels.ensures) size put-top in
-    written_behind 0 bottom (rings ++ top) a.out.now put refl above
+    three-written bottom rings top a.out.now put refl (lent-from 3 rings below c.write_levels.ensures) size put-top
     ∙ ap (λ (y : Float). overwrite 0 (coordinates (pole y)
     ++ (cylinder_rings a.radius y a.height a.layers n ++ coordinates (pole (plus y a.height))))
     a.out.now) low.ensures

@@ -22,7 +22,7 @@ returns c =
     let frames = written-frames N curve c.args.frames.now c.requires.frames_room written in
     let last = filled.carried ∙ ap (λ (chain : Chain). carried_of chain N curve (N - 1)) on in
     let along = c.direction.ensures ∙ ap (λ (chain : Chain). segment_direction chain N curve 0) on in
-    let first = c.point.ensures ∙ frames.frame 0 s.segment in
+    let first = frames.frame 0 s.segment in
     let ends = c.ends_at.ensures ∙ (λ i. ends_at (last i) (along i) (record { ex = first i }))
     ∙ ends-of-loop N curve in
     record {

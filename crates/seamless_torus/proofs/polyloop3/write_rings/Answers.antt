@@ -43,7 +43,7 @@ loop-g-preserved c =
     let frame = smooth_frame a.twist N curve in
     let direction = c.direction-ez.ensures
     ∙ ap (λ (chain : Chain). segment_direction chain N curve g) c.requires.on_loop in
-    let ex = c.point.ensures ∙ c.requires.frame_table.frame g c.loop-g-test.true in
+    let ex = c.requires.frame_table.frame g c.loop-g-test.true in
     let turned = c.twisted-frame.ensures
     ∙ (λ i. twisted_frame (record { ex = ex i }) (direction i) (c.share.ensures i)) in
     let axes = c.at.ensures ∙ (λ i. axes_at (c.vertex.ensures i) (turned i) (direction i)) in

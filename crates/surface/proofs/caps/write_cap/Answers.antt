@@ -1,12 +1,8 @@
 -- Each turn of the loop writes one triangle after the last. Assumes nothing.
-use Rattle.std.proofs.Common.{◌≡◌, sym, arith}
-use Rattle.laws.proofs.Overwrite.{overwrite-none}
+use Rattle.std.proofs.Common.{◌≡◌, arith}
 use Rattle.surface.proofs.Flatten.{turn, blocks-written}
 use Rattle.surface.proofs.Pieces.{cap_at, cap-written, length-cap_at}
 use Rattle.surface.proofs.caps.write_cap.Goals as goal
-
-pub loop-i-init : goal.loop-i-init
-loop-i-init c = sym (overwrite-none _ _)
 
 pub loop-i-preserved : goal.loop-i-preserved
 loop-i-preserved c = let l = c.loop-i in

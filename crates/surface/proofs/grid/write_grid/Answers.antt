@@ -1,16 +1,14 @@
 -- The rows whose rings follow one another, and after them the last row of a closed grid.
 -- Assumes nothing.
-use Rattle.std.proofs.Common.{◌≡◌, sym, ap, ◌∙◌, List, ℕ, ◌+◌, ◌*◌, ◌^◌, ◌≤◌, ◌<◌, mul_assoc}
-use Rattle.std.proofs.Common.{mul-le-mul_right, arith, length}
+use Rattle.std.proofs.Common.{◌≡◌, sym, ap, ◌∙◌, List, ℕ, ◌+◌, ◌*◌, mul_assoc}
+use Rattle.std.proofs.Common.{arith}
 use Rattle.laws.specs.Overwrite.{overwrite}
 use Rattle.laws.proofs.Overwrite.{written_behind}
 use Rattle.laws.proofs.Lent.{lent-from}
-use Rattle.laws.proofs.Products.{row_within}
 use Rattle.surface.specs.Triangles.{flatten}
 use Rattle.surface.specs.Grid.{straight_of, row_triangles, grid_triangles}
-use Rattle.surface.specs.Whole.{chain_of, ring_count, ring_size}
+use Rattle.surface.specs.Whole.{chain_of, ring_size}
 use Rattle.surface.specs.declared.grid.Chain.TheVariants.{Open}
-use Rattle.surface.proofs.Chains.{straight-bounds}
 use Rattle.surface.proofs.Flatten.{flatten-append}
 use Rattle.surface.proofs.Pieces.{length-grid}
 use Rattle.surface.proofs.LastRow.{one_left}

@@ -1,17 +1,10 @@
 -- Each turn of the loop stores one raised number after the last. Assumes nothing.
-use Rattle.std.proofs.Common.{◌≡◌, refl, sym, ap, ◌∙◌, List, ℕ, ◌+◌, ◌^◌, ◌<◌, arith, length, get_or}
-use lib.ListN.{length-map}
-use Rattle.laws.proofs.Places.{get_or-map}
-use Rattle.laws.specs.Overwrite.{overwrite}
-use Rattle.laws.proofs.Overwrite.{overwrite-none, one_store}
-use Rattle.laws.proofs.Blocks.{blocks-map, one_more, all-written}
+use Rattle.std.proofs.Common.{◌≡◌, refl, ◌+◌, ◌^◌, ◌<◌, arith, length, get_or}
+use Rattle.std.proofs.lemmas.List.{length-map, get_or-map}
+use Rattle.laws.proofs.Blocks.{store_more, all_stored}
 use Rattle.surface.specs.Raise.{raised}
 use Rattle.surface.proofs.Below.{below_at}
-use Rattle.surface.proofs.raise.copy_raised.Invariants.{here}
 use Rattle.surface.proofs.raise.copy_raised.Goals as goal
-
-pub loop-k-init : goal.loop-k-init
-loop-k-init c = sym (overwrite-none _ _)
 
 pub overflow_add-to : goal.overflow_add-to
 overflow_add-to c = let a = c.args in
@@ -27,12 +20,9 @@ overflow_add-to c = let a = c.args in
 pub loop-k-preserved : goal.loop-k-preserved
 loop-k-preserved c = let a = c.args in
     let l = c.loop-k in
-    one_more 0 l.k 1 (here a.rise a.from.now) a.to.now (λ k h. refl) l.invariant (omega arith)
-    (one_store l.k (a.rise + get_or a.from.now l.k 0) l.to) refl
+    store_more l.k (λ k. a.rise + get_or a.from.now k 0) a.to.now l.invariant refl
 
 pub returns : goal.returns
 returns c = let a = c.args in
-    let l = c.loop-k in
-    let end : l.k ≡ length a.from.now = omega arith in
-    all-written 0 (here a.rise a.from.now) a.to.now l.invariant end
-    ∙ ap (λ (v : List ℕ). overwrite 0 v a.to.now) (blocks-map (λ n. a.rise + n) a.from.now 0)
+    let end : c.loop-k.k ≡ length a.from.now = omega arith in
+    all_stored (λ n. a.rise + n) a.from.now 0 a.to.now c.loop-k.invariant end

@@ -1,8 +1,7 @@
 -- The directions before i stand in the table.
 use Rattle.std.proofs.Common.{◌≡◌, ℕ, ◌<◌, length}
-use Rattle.vec3.specs.Points.{thrice}
+use Rattle.vec3.specs.Points.{thrice, point_in}
 use Rattle.vec3.specs.Turns.{turn_of}
-use Rattle.rings.specs.Rings.{point_in}
 use Rattle.ring_writers.proofs.turns.Turns.fill.Given as goal
 
 abbrev pub invariant-loop-i : goal.invariant-loop-i

@@ -1,11 +1,13 @@
 -- Bottom cap, grid and top cap, each written after the last. Assumes nothing.
 use Rattle.std.proofs.Common.{rules, ◌++◌, ◌≡◌, ℕ, sym, ap, ◌∙◌, ◌+◌, ◌-◌, ◌*◌, ◌^◌, ◌≤◌, arith, length}
 use Rattle.laws.specs.Overwrite.{overwrite}
+use Rattle.laws.proofs.Overwrite.{three-written}
+use Rattle.laws.proofs.Lent.{lent-from}
 use Rattle.surface.specs.Triangles.{flatten}
 use Rattle.surface.specs.Whole.{chain_of, ring_size, grid_size, surface_grid}
 use Rattle.surface.specs.Caps.{cap_triangles}
 use Rattle.surface.specs.declared.caps.End.TheVariants.{Bottom, Top}
-use Rattle.surface.proofs.Flatten.{three-written}
+use Rattle.surface.proofs.Flatten.{flatten-three}
 use Rattle.surface.proofs.Pieces.{length-cap, length-grid, bottom_of, capped-parts}
 use Rattle.surface.proofs.Room.{capped_fits}
 use Rattle.surface.proofs.whole.Surface.put_capped.Goals as goal
@@ -83,12 +85,13 @@ returns c = let m = (goal.at.returns c).After-vertex_count in
     let to-rim = ap (λ (w : ℕ). a.first + c.vertex_count.result - 1 - w) c.ring_size.ensures ∙ rim m in
     let bottom = bottom_of s a.first in
     let grid = surface_grid s side in
-    three-written bottom grid
-    (cap_triangles Top s.columns (a.first + c.vertex_count.result - 1) (a.first + c.vertex_count.result - 1 - c.ring_size.result)) t₀
-    c.write_cap.ensures
-    c.write_grid.ensures
-    c.write_cap-2.ensures
-    (sym (length-cap Bottom s.columns a.first side))
-    (omega (arith, length-grid s.split s.round s.columns (chain_of s.ending) s.rows side))
+    let top = cap_triangles Top s.columns (a.first + c.vertex_count.result - 1) (a.first + c.vertex_count.result - 1 - c.ring_size.result) in
+    let room = length-grid s.split s.round s.columns (chain_of s.ending) s.rows side in
+    three-written (flatten bottom) (flatten grid) (flatten top) t₀ c.write_cap.ensures
+    (length-cap Bottom s.columns a.first side)
+    (lent-from _ (flatten grid) _ c.write_grid.ensures)
+    (omega (arith, room))
+    (lent-from _ (flatten top) _ c.write_cap-2.ensures)
+    ∙ ap (λ l. overwrite 0 l t₀) (flatten-three bottom grid top)
     ∙ (λ i. overwrite 0 (flatten (bottom ++ (grid ++ cap_triangles Top s.columns (pole m i) (to-rim i)))) t₀)
     ∙ ap (λ l. overwrite 0 (flatten l) t₀) (sym (capped-parts s a.first c.requires.capped))

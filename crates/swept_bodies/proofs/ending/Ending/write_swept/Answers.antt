@@ -3,13 +3,15 @@
 use Rattle.std.proofs.Common.{◌≡◌, sym, ap, ◌∙◌, rules, List, ℕ, ◌+◌, ◌*◌, ◌-◌, Float, length}
 use borrow.Rule.Slice.PartMut.{put_mid}
 use Rattle.laws.specs.Overwrite.{overwrite}
+use Rattle.laws.proofs.Overwrite.{three-written}
 use Rattle.laws.proofs.Lent.{lent-from}
 use Rattle.surface.specs.declared.caps.End.TheVariants.{Bottom, Top}
-use Rattle.curve.specs.Segments.{vertex_of, point_at}
+use Rattle.vec3.specs.Points.{point_in}
+use Rattle.curve.specs.Segments.{vertex_of}
 use Rattle.rings.specs.Axes.{axes_at}
 use Rattle.rings.specs.declared.axes.Axes.{Axes}
 use Rattle.swept_bodies.specs.Swept.{ring_about, axes_on, axes_first, axes_inner, axes_last, inner_rings, end_part, end_floats, swept_vertices}
-use Rattle.swept_bodies.proofs.Later.{later, three-written}
+use Rattle.swept_bodies.proofs.Later.{later}
 use Rattle.swept_bodies.proofs.Lengths.{length-about, length-first, length-inner}
 use Rattle.swept_bodies.proofs.ending.Ending.write_swept.Goals as goal
 
@@ -32,7 +34,7 @@ returns c =
     let inner = c.walk-last.ensures.written ring (record {
       sized = λ g. length-about p.chain n s.radius (axes_inner p.chain m curve g) ∙ sym same;
       front = λ g b lent left on q.
-          let on-table = axes_at (vertex_of curve g) b.frame (point_at a.ez.now (g * 3)) in
+          let on-table = axes_at (vertex_of curve g) b.frame (point_in a.ez.now g) in
           let written : left.now ≡ overwrite 0 (ring_about p.chain n s.radius on-table) lent.now = search rules in
           written ∙ (λ i. overwrite 0 (ring_about p.chain n s.radius
           (axes_at (vertex_of curve g) (on.same i).frame (c.requires.ez_table.between g on.later on.within i))) lent.now);
