@@ -12,8 +12,8 @@ const MOST: usize = 1365;
 const ELEMENTS: usize = 3 * MOST;
 
 // A body by itself: the bits of its coordinates and its triangles, each at the front of the room
-// for them, and how many vertices and triangles they are. These are arrays with counts beside them,
-// since the programs allocate nothing.
+// for them, and how many vertices and triangles they are. These are arrays with counts beside
+// them, since the programs allocate nothing.
 #[derive(Clone, Copy, Debug)]
 pub struct Alone {
     pub coordinates: [u32; ELEMENTS],
@@ -22,8 +22,8 @@ pub struct Alone {
 }
 
 impl Case {
-    // Writes the case's body to the fronts of the slices, unless it is refused, and answers how many
-    // vertices and triangles it has.
+    // Writes the case's body to the fronts of the slices, unless it is refused, and answers how
+    // many vertices and triangles it has.
     fn write(self, vertices: &mut [f32], triangles: &mut [u32]) -> Result<Counts, Refusal> {
         let mut space = [0f32; COORDINATES];
         let description = self.describe();
@@ -34,8 +34,8 @@ impl Case {
         description.counts(curve.len() / 3)
     }
 
-    // The case's body alone. Where it is refused there is none of it, and where there is too little
-    // room nothing is written: the comparison with the set will differ.
+    // The case's body alone. Where it is refused there is none of it, and where there is too
+    // little room nothing is written: the comparison with the set will differ.
     pub fn alone(self) -> Alone {
         let mut vertices = [0f32; ELEMENTS];
         let mut triangles = [0u32; ELEMENTS];

@@ -8,9 +8,8 @@ use std::array;
 // A body in small numbers: its kind, its width, radius and length in eighths, the number of
 // vertices of its curve and the seed from which the curve is drawn. `steps` are the longitudes of
 // a capsule and the layers of a closed cylinder. A field that a kind does not have is ignored: one
-// struct serves all kinds, as a record does. A case that held a `Description` would get its fields
-// back through `Description::new`, which is among what is tested, and the entry of a body could not
-// be compared with what was drawn.
+// struct serves all kinds, as a record does. It holds the fields and no `Description`, since what
+// an entry must have would then come from a match on the description, which is what is tested.
 #[derive(Clone, Copy, Debug)]
 pub struct Case {
     pub kind: Kind,

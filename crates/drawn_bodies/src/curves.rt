@@ -5,8 +5,8 @@ use crate::generator::{Generator, eighths};
 // Room for the coordinates of any case.
 pub(crate) const COORDINATES: usize = 768;
 
-// Fills the slice with an open curve: x and y wander, z rises by 1/4 or more at each segment, from
-// what it was, so that a running sum is the plain form.
+// Fills the slice with an open curve: x and y wander, and z rises by 1/4 or more at each segment.
+// Each z is the one before and a drawn rise, so the loop keeps a running sum.
 fn fill_open(mut generator: Generator, curve: &mut [f32]) {
     let mut z = 0.0f32;
     let (curve, _) = curve.as_chunks_mut::<3>();
@@ -19,7 +19,8 @@ fn fill_open(mut generator: Generator, curve: &mut [f32]) {
 }
 
 // Fills the slice with a closed curve of this number of vertices. Seen along z it is an arch over
-// its closing segment, which rises less at each vertex; z wanders.
+// its closing segment, which rises less at each vertex; z wanders. The number is a `u8` beside the
+// slice, since only of a small integer is it proved that a float holds it exactly.
 fn fill_closed(vertices: u8, mut generator: Generator, curve: &mut [f32]) {
     let mut x = 0.0f32;
     let mut y = 0.0f32;

@@ -1,5 +1,5 @@
-// The bodies that the program `neighbours` loads, and each of them alone. The program compares what
-// is drawn here, so no contract says more than safety needs.
+// The bodies that the program `neighbours` loads, and each of them alone. The program compares
+// what is drawn here, so no contract says more than safety needs.
 #![tactic(auto)]
 
 mod alone;

@@ -22,7 +22,9 @@ impl fmt::Display for Words<'_> {
     }
 }
 
-// Writes the words of each triple on a line of its own: the vertices or the triangles that they are.
+// Writes the words of each triple on a line of its own: the vertices or the triangles that they
+// are. Each caller cuts the slice to as many as it has: a count that is handed over beside the
+// slice would have to be held against its length here.
 pub fn write_triples<W: Write>(out: &mut W, triples: &[[u32; 3]]) -> io::Result<()> {
     for triple in triples {
         writeln!(out, "{}", Words(triple))?;

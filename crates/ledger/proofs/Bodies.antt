@@ -1,7 +1,7 @@
 -- A body of permitted numbers has the shape that demand 3 claims, and a body that is added has
 -- permitted numbers: those of its description, whose kind and n they fit. Assumes nothing.
 use Rattle.std.proofs.Common.{◌≡◌, refl, sym, ap, subst, ◌∙◌, Bool, true, false, ◌||◌, List, [], ◌∷◌, ℕ, ◌+◌, ◌-◌, ◌*◌, ◌/◌, arith, eqb-true, eqb, length}
-use Rattle.laws.proofs.Conjunction.{both_true}
+use Rattle.std.proofs.lemmas.Bool.{and_parts}
 use Rattle.float32.specs.Scan.{all_finite}
 use Rattle.surface.specs.Triangles.{Triangle, triangle, flatten, shift}
 use Rattle.kinds.specs.Kinds.{permitted, vertex_count, triangles_of}
@@ -82,7 +82,7 @@ added a first h finite best =
     let d = a.description in
     let N = vertices_in a.curve in
     let shape = (checked-shape d a.curve h).1 in
-    let both = both_true (twist_finite d a.curve) (all_finite (body_alone a).vertices) finite in
+    let both = and_parts (twist_finite d a.curve) (all_finite (body_alone a).vertices) finite in
     record {
       addition = a;
       passes = h;

@@ -4,17 +4,17 @@ ghost use Rattle.std.specs.Prelude.{◌≡◌, length};
 use crate::markers::Pattern;
 use crate::tally::Tally;
 
-// Whether `word` is `alone` with `first` added, where the sum is not cut to 32 bits.
-fn is_shifted(alone: u32, first: u32, word: u32) -> bool {
-    alone as u64 + first as u64 == word as u64
+// Whether `word` is `alone` with `shift` added, where the sum is not cut to 32 bits.
+fn is_shifted(alone: u32, shift: u32, word: u32) -> bool {
+    alone.checked_add(shift) == Some(word)
 }
 
-// Compares a body's words with those that it has alone, `first` added to each.
-pub(crate) fn compare_words(alone: &[u32], first: u32, set: &[u32]) -> Tally
+// Compares a body's words with those that it has alone, `shift` added to each.
+pub(crate) fn compare_words(alone: &[u32], shift: u32, set: &[u32]) -> Tally
     requires { length alone.now ≡ length set.now }
 {
     let pairs = alone.iter().zip(set);
-    let differing = pairs.filter(|(own, placed)| !is_shifted(**own, first, **placed));
+    let differing = pairs.filter(|(own, placed)| !is_shifted(**own, shift, **placed));
     Tally {
         bodies: alone.len() as u64,
         past: 0,

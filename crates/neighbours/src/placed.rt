@@ -5,9 +5,10 @@ use crate::markers;
 use crate::set::Set;
 use crate::tally::Tally;
 use descriptions::Counts;
-use drawn_bodies::{Case, Triple};
+use drawn_bodies::{Alone, Case, Triple};
 
-// The words of an entry.
+// The words of an entry. A test's numbers do not come from what is tested, so this is not the
+// constant of the crate set_table.
 const ENTRY: usize = 6;
 
 // Compares the entry of a case, whose vertices and triangles come after `first`.
@@ -34,34 +35,34 @@ fn compare_stretch(first: u32, count: u32, shift: u32, alone: &[u32], set: &[u32
     }
 }
 
+// The sums of both, which stay far below 2^32, where they would wrap. `Counts` has no `Add`,
+// since nothing in the core adds counts.
+fn sum(totals: Counts, own: Counts) -> Counts {
+    Counts {
+        vertices: totals.vertices.wrapping_add(own.vertices),
+        triangles: totals.triangles.wrapping_add(own.triangles),
+    }
+}
+
 impl Set {
-    // Compares the body of a case with it alone: its entry, and its vertices and triangles, which
-    // come after `totals`. Adds theirs to the totals, which stay far below 2^32, where they would
-    // wrap.
-    fn compare_body(&self, case: Case, entry: &[u32; ENTRY], totals: &mut Counts) -> Tally {
-        let first = *totals;
-        let alone = case.alone();
+    // Compares the vertices and triangles of a body, which come after `first`, with those that it
+    // has alone.
+    fn compare_body(&self, alone: &Alone, first: Counts) -> Tally {
         let own = alone.counts;
-        *totals = Counts {
-            vertices: first.vertices.wrapping_add(own.vertices),
-            triangles: first.triangles.wrapping_add(own.triangles),
-        };
         let vertex = first.vertices;
-        compare_entry(case, first, own, entry)
-            + compare_stretch(
-                vertex,
-                own.vertices,
-                0,
-                &alone.coordinates,
-                &self.coordinates,
-            )
-            + compare_stretch(
-                first.triangles,
-                own.triangles,
-                vertex,
-                &alone.triangles,
-                &self.triangles,
-            )
+        compare_stretch(
+            vertex,
+            own.vertices,
+            0,
+            &alone.coordinates,
+            &self.coordinates,
+        ) + compare_stretch(
+            first.triangles,
+            own.triangles,
+            vertex,
+            &alone.triangles,
+            &self.triangles,
+        )
     }
 
     // Compares word 0, and the table past the three entries.
@@ -84,7 +85,11 @@ impl Set {
         let mut tally = self.compare_table();
         let (entries, _) = self.table[1..].as_chunks::<ENTRY>();
         for (entry, case) in entries.iter().zip(triple) {
-            tally = tally + self.compare_body(case, entry, &mut totals);
+            let alone = case.alone();
+            tally = tally
+                + compare_entry(case, totals, alone.counts, entry)
+                + self.compare_body(&alone, totals);
+            totals = sum(totals, alone.counts);
         }
         tally + self.compare_rest(totals)
     }

@@ -3,7 +3,8 @@ use crate::markers;
 use drawn_bodies::{Triple, load_triple};
 use float32::{from_word, to_word};
 
-// The words of a table of 64 bodies.
+// The words of a table of 64 bodies. A test's numbers do not come from what is tested, so this is
+// not worked out by the crate set_table.
 const WORDS: usize = 385;
 
 // Room for the coordinates of 4,096 vertices, and for the indices of as many triangles.

@@ -1,3 +1,4 @@
+use std::fmt;
 use std::iter::Sum;
 use std::ops::Add;
 
@@ -17,6 +18,21 @@ impl Tally {
         past: 0,
         differing: 1,
     };
+}
+
+impl fmt::Display for Tally {
+    // What was counted.
+    fn fmt<W: fmt::Write>(&self, f: &mut fmt::Formatter<W>) -> fmt::Result {
+        let Tally {
+            bodies,
+            past,
+            differing,
+        } = *self;
+        write!(
+            f,
+            "{bodies} elements of bodies, {past} past them, {differing} differ"
+        )
+    }
 }
 
 impl Add for Tally {

@@ -1,6 +1,6 @@
 -- The additions of a list of records, record by record. Assumes nothing.
 use Rattle.std.proofs.Common.{◌≡◌, refl, sym, ap, ◌∙◌, Bool, true, false, cond, ◌&&◌, List, [], ◌∷◌, ◌++◌, ℕ, zero, suc, ◌+◌, ◌*◌, ◌≤◌, arith, le-leb, leb-true, leb, length, drop, length-drop}
-use Rattle.laws.proofs.Conjunction.{both_true}
+use Rattle.std.proofs.lemmas.Bool.{and_parts}
 use Rattle.answers.specs.Answers.{Answer}
 use Rattle.set_table.specs.Buffers.{Buffers}
 use Rattle.ledger.specs.Calls.{Call, Called, addition, answered, additions}
@@ -19,8 +19,8 @@ unfolding begins_with_record head_names
 whole words h =
     let named = head_names words in
     let fits = leb (head_words + 3 * vertices_named words) (length words) in
-    let parts = both_true named fits h in
-    let head = both_true (leb head_words (length words)) (leb (vertices_named words) most_vertices) parts.0 in
+    let parts = and_parts named fits h in
+    let head = and_parts (leb head_words (length words)) (leb (vertices_named words) most_vertices) parts.0 in
     record {
       head = leb-true head_words (length words) head.0;
       few = leb-true (vertices_named words) most_vertices head.1;

@@ -1,9 +1,8 @@
 -- The length that a head names: of the record, where its words are there, and of its words alone.
 -- Assumes nothing.
 use Rattle.std.proofs.Common.{◌≡◌, refl, sym, ap, ◌∙◌, Bool, true, false, cond, ◌&&◌, List, zero, suc, ℕ, ◌+◌, ◌*◌, ◌≤◌, ◌<◌, arith, le-leb, leb-true, leb-false, leb, length, take, length-take, length-take-le, get_or-take, take-take, Some, None}
-use Rattle.std.proofs.lemmas.Bool.{lt-leb}
+use Rattle.std.proofs.lemmas.Bool.{lt-leb, and_parts}
 use Rattle.std.specs.Bool.{then_some}
-use Rattle.laws.proofs.Conjunction.{both_true}
 use Rattle.records.specs.Records.{head_words, most_vertices, vertices_named, head_names, unless_zero, length_named}
 use Rattle.records.specs.Records.{begins_with_record, record_words}
 use Rattle.records.proofs.Additions.{whole, whole-begins, record-length}
@@ -93,7 +92,7 @@ module _ (words : List ℕ) where
   named-bounds {n} is some = by (head_names words) refl where
     by : (b : Bool) → head_names words ≡ b → (head_words ≤ n) × (n ≤ head_words + 3 * most_vertices)
     by true e =
-        let tests = both_true (leb head_words (length words)) (leb (vertices_named words) most_vertices) e in
+        let tests = and_parts (leb head_words (length words)) (leb (vertices_named words) most_vertices) e in
         let few = leb-true (vertices_named words) most_vertices tests.1 in
         let long = is ∙ ap named_if e in
         (omega (arith, long), omega (arith, long, few))

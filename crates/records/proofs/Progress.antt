@@ -14,8 +14,8 @@ use Rattle.records.specs.Built.{replies_in, numbers_of}
 use Rattle.records.proofs.Additions.{whole, record-length, additions-next, additions-none, preceded_by}
 use Rattle.records.proofs.Additions.{additions-append}
 
--- The records before `rest` have been read and i answers written. The buffers held s₀ and answers₀,
--- and hold s and answers.
+-- The records before `rest` have been read and i answers written. The buffers held s₀ and
+-- answers₀, and hold s and answers.
 pub record Progress (records answers₀ : List ℕ) (s₀ : Buffers) (answers : List ℕ) (s : Buffers) (rest : List ℕ) (i : ℕ) : Type 0 where
   -- what the calls so far answered
   pub done : List (Answer (Unit {0}))

@@ -28,7 +28,8 @@ fn put_answer(reply: Option<Result<(), Refusal>>, answers: &mut [u32], i: usize)
 }
 
 // Adds the bodies of all records, one after the other, and writes the number that each addition
-// got to `answers`.
+// got to `answers`. The loop goes on with the words that are left: an iterator over records would
+// be a type with laws of its own, for this loop alone.
 fn add_all(
     records: &[u32],
     answers: &mut [u32],

@@ -20,6 +20,7 @@ const SCRATCH_FLOATS: usize = 3 * MOST_VERTICES;
 
 // Writes the floats with the bit patterns `words`, whatever they are, to the front of `out`: by
 // their index, since a proof knows nothing of elements that are written through a `zip`.
+#[tactic(auto, using(laws::proofs::Overwrite::unwritten))]
 fn fill_floats(words: &[u32], out: &mut [f32])
     requires { length words.now ≤ length out.old }
     ensures { out.new ≡ overwrite 0 (map (of_bits binary32) words.now) out.old }
@@ -29,24 +30,23 @@ fn fill_floats(words: &[u32], out: &mut [f32])
     }
 }
 
-// Adds the body of `description` whose curve has these coordinates. `scratch` takes them as
-// floats.
+// Adds the body of `description` whose curve has these coordinates.
 fn add_body(
     description: Description,
     coordinates: &[u32],
-    scratch: &mut [f32],
     table: &mut [u32],
     vertices: &mut [f32],
     triangles: &mut [u32],
 ) -> Result<(), Refusal>
-    requires { length coordinates.now ≤ length scratch.old }
+    requires { length coordinates.now ≤ 1536 }
     ensures { after (answer_of result) table.new vertices.new triangles.new
         ≡ added (taken description (map (of_bits binary32) coordinates.now))
         (buffers table.old vertices.old triangles.old) }
 {
-    fill_floats(coordinates, scratch);
-    let count = coordinates.len();
-    shared_set::add(description, &scratch[..count], table, vertices, triangles)
+    let mut scratch = [0f32; SCRATCH_FLOATS];
+    fill_floats(coordinates, &mut scratch);
+    let curve = &scratch[..coordinates.len()];
+    shared_set::add(description, curve, table, vertices, triangles)
 }
 
 // Adds the body of the record that `words` begins with. Skips words that begin with no record, and
@@ -62,15 +62,8 @@ pub fn add_first(
         (buffers table.old vertices.old triangles.old) }
 {
     let end = record_words(words)?;
-    let description = describe(words)?;
-    let mut scratch = [0f32; SCRATCH_FLOATS];
+    let (head, _) = words.split_first_chunk::<HEAD_WORDS>()?;
+    let description = describe(head)?;
     let coordinates = &words[HEAD_WORDS..end];
-    Some(add_body(
-        description,
-        coordinates,
-        &mut scratch,
-        table,
-        vertices,
-        triangles,
-    ))
+    Some(add_body(description, coordinates, table, vertices, triangles))
 }

@@ -1,4 +1,4 @@
-ghost use Rattle.std.specs.Prelude.{◌≡◌, ◌≤◌, length};
+ghost use Rattle.std.specs.Prelude.{◌≡◌};
 ghost use Rattle.records.specs.Records.{unless_zero, length_named, record_words, described_in};
 
 use descriptions::{Description, Sizes, of_kind};
@@ -11,7 +11,7 @@ pub const HEAD_WORDS: usize = 7;
 const VERTICES_AT: usize = 6;
 
 // The most vertices that a record's curve may have.
-pub(crate) const MOST_VERTICES: usize = 512;
+pub const MOST_VERTICES: usize = 512;
 
 // The length of the record that begins with `head`, unless the head is too short or names too many
 // vertices.
@@ -32,18 +32,18 @@ pub fn record_words(words: &[u32]) -> Option<usize>
 }
 
 // What the head of a record describes, if its kind is known.
-pub(crate) fn describe(words: &[u32]) -> Option<Description>
-    requires { 7 ≤ length words.now }
-    ensures { result ≡ described_in words.now }
+pub(crate) fn describe(head: &[u32; HEAD_WORDS]) -> Option<Description>
+    ensures { result ≡ described_in head.now }
 {
+    let [kind, divisions, steps, centred, size, length, _] = *head;
     of_kind(
-        words[0],
+        kind,
         Sizes {
-            divisions: words[1],
-            steps: words[2],
-            centred: words[3] != 0,
-            size: from_word(words[4]),
-            length: from_word(words[5]),
+            divisions,
+            steps,
+            centred: centred != 0,
+            size: from_word(size),
+            length: from_word(length),
         },
     )
 }

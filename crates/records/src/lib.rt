@@ -8,4 +8,4 @@ mod head;
 
 pub use building::build;
 pub use first::add_first;
-pub use head::{HEAD_WORDS, record_length, record_words};
+pub use head::{HEAD_WORDS, MOST_VERTICES, record_length, record_words};

@@ -7,7 +7,7 @@ use Rattle.std.specs.Float.{binary32}
 use Rattle.std.proofs.Math.ListN.{length-map, get_or-append}
 use Rattle.std.proofs.lemmas.Option.{slice_get-map, slice_get_within, slice_get_read, slice_get_past, get_or_from_slice_get}
 use Rattle.std.specs.Slice.{IsItemAt}
-use denote.Bor.{Bor}
+use Rattle.std.proofs.Common.{Bor}
 use Rattle.answers.specs.Answers.{Answer, Test, refused, accepted, answer_of}
 use Rattle.answers.specs.declared.refusal.Refusal.TheVariants.{PastEnd}
 use Rattle.answers.proofs.FirstOf.{accepted-by, passed-by}

@@ -8,7 +8,7 @@ use answers::Refusal;
 use set_table::read;
 
 // Word `place` of the file of the set. A damaged table (1) and a place at the end or past it (5)
-// are refused.
+// are refused. The buffers come one by one, as a station lends them.
 pub fn file_word(
     table: &[u32],
     vertices: &[f32],

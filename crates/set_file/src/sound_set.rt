@@ -3,7 +3,8 @@ ghost use Rattle.surface.specs.Limits.{most_in_all};
 ghost use Rattle.answers.specs.Answers.{answer_of};
 ghost use Rattle.set_table.specs.Entries.{table_words};
 ghost use Rattle.set_table.specs.Buffers.{buffers};
-ghost use Rattle.set_file.specs.File.{file_head, file_body, entries_held, floats_held, indices_held, word_in};
+ghost use Rattle.set_file.specs.File.{file_head, file_body, entries_held, floats_held};
+ghost use Rattle.set_file.specs.File.{indices_held, word_in};
 
 use answers::Refusal;
 use set_table::{Totals, table_words};
@@ -43,12 +44,14 @@ impl SoundSet<'_> {
     }
 
     // Word `place` of what follows the head: the entries, then the vertices, then the triangles. A
-    // place at the end or past it (5) is refused. The parts are asked one by one, since an iterator
-    // over all three would walk to the place.
+    // place at the end or past it (5) is refused. The parts are asked one by one, since an
+    // iterator over all three would walk to the place.
     fn body_word(self, place: usize) -> Result<u32, Refusal>
-        ensures { let t = self.entry.totals in
-            let s = buffers self.entry.table.now self.entry.vertices.now self.entry.triangles.now in
-            answer_of result ≡ word_in (file_body (entries_held t s) (floats_held t s) (indices_held t s)) place }
+        ensures { let e = self.entry in
+            let t = e.totals in
+            let s = buffers e.table.now e.vertices.now e.triangles.now in
+            let body = file_body (entries_held t s) (floats_held t s) (indices_held t s) in
+            answer_of result ≡ word_in body place }
     {
         let entries = &self.table[1..table_words(self.totals.bodies)];
         if let Some(word) = entries.get(place) {
@@ -66,9 +69,11 @@ impl SoundSet<'_> {
 
     // Word `place` of the file of the set. A place at the end or past it (5) is refused.
     pub(crate) fn word(self, place: usize) -> Result<u32, Refusal>
-        ensures { let t = self.entry.totals in
-            let s = buffers self.entry.table.now self.entry.vertices.now self.entry.triangles.now in
-            answer_of result ≡ word_in (file_head t ++ file_body (entries_held t s) (floats_held t s) (indices_held t s)) place }
+        ensures { let e = self.entry in
+            let t = e.totals in
+            let s = buffers e.table.now e.vertices.now e.triangles.now in
+            let body = file_body (entries_held t s) (floats_held t s) (indices_held t s) in
+            answer_of result ≡ word_in (file_head t ++ body) place }
     {
         let head = self.head();
         if let Some(word) = head.get(place) {

@@ -1,8 +1,7 @@
 -- What 2, 3 and 4 let pass has room for its entry, its vertices and its triangles. Assumes
 -- nothing.
 use Rattle.std.proofs.Common.{◌≡◌, true, not, ℕ, ◌+◌, ◌*◌, ◌≤◌, ◌<◌, arith, leb-true, eqb, leb}
-use Rattle.std.proofs.lemmas.Bool.{eqb-false, not-true}
-use Rattle.laws.proofs.Conjunction.{both_true}
+use Rattle.std.proofs.lemmas.Bool.{eqb-false, not-true, and_parts}
 use Rattle.set_table.specs.Entries.{table_words}
 use Rattle.set_table.specs.Room.{Fits, most_bodies, entry_permitted}
 use Rattle.set_table.specs.declared.lengths.Lengths.{Lengths}
@@ -14,7 +13,7 @@ entry-permitted : (B lent : ℕ) → B ≤ most_bodies → entry_permitted B len
     → (B < most_bodies) × (table_words (B + 1) ≤ lent)
 unfolding entry_permitted
 entry-permitted B lent most h =
-    let both = both_true (not (eqb B most_bodies)) (leb (table_words (B + 1)) lent) h in
+    let both = and_parts (not (eqb B most_bodies)) (leb (table_words (B + 1)) lent) h in
     let other = eqb-false B most_bodies (not-true (eqb B most_bodies) both.0) in
     (omega arith, leb-true (table_words (B + 1)) lent both.1)
 

@@ -1,7 +1,8 @@
 -- What a table that is not damaged tells, and which table is one. Assumes nothing.
 use Rattle.std.proofs.Common.{◌≡◌, refl, sym, ap, ◌∙◌, subst, Bool, true, false, ◌&&◌, List, [], ◌∷◌, ℕ, ◌+◌, ◌*◌, ◌≤◌, ◌<◌, le-leb, leb-true, leb, length, Some, None, add-one, arith}
 use Rattle.std.proofs.Math.Bool.{and-false, and_assoc}
-use Rattle.laws.proofs.Conjunction.{both_true, and-exchange}
+use Rattle.std.proofs.lemmas.Bool.{and_parts}
+use Rattle.laws.proofs.Conjunction.{and-exchange}
 use Rattle.laws.specs.Every.{every}
 use Rattle.laws.proofs.Every.{every_more, every-fails}
 use Rattle.surface.specs.Limits.{most_in_all, fits}
@@ -21,8 +22,8 @@ pub head-bounds : (T : List ℕ) → head_sound T ≡ true
 unfolding head_sound
 head-bounds T h =
     let B = bodies_in T in
-    let some = both_true (leb 1 (length T)) (leb B most_bodies && leb (table_words B) (length T)) h in
-    let held = both_true (leb B most_bodies) (leb (table_words B) (length T)) some.1 in
+    let some = and_parts (leb 1 (length T)) (leb B most_bodies && leb (table_words B) (length T)) h in
+    let held = and_parts (leb B most_bodies) (leb (table_words B) (length T)) some.1 in
     (leb-true 1 (length T) some.0, leb-true B most_bodies held.0, leb-true (table_words B) (length T) held.1)
 
 -- the number of bodies that is read of it, or none
@@ -102,13 +103,13 @@ module _ (T : List ℕ) (v r : ℕ) where
   -- what it tells of its entries and its numbers, and back
   pub undamaged-reads : undamaged T v r ≡ true → (each ≡ true) × Reads T v r (totals_in T)
   undamaged-reads h =
-      let parts = both_true (head_sound T && (each && below)) inside (sym tests ∙ h) in
-      let own = both_true (head_sound T) (each && below) parts.0 in
+      let parts = and_parts (head_sound T && (each && below)) inside (sym tests ∙ h) in
+      let own = and_parts (head_sound T) (each && below) parts.0 in
       let head = head-bounds T own.0 in
       let count = count-entries T B in
-      let entries = both_true each below own.1 in
-      let few = both_true (leb (totals_in T).vertices most_in_all) (leb (totals_in T).triangles most_in_all) entries.1 in
-      let lent = both_true (leb (3 * (totals_in T).vertices) v) (leb (3 * (totals_in T).triangles) r) parts.1 in (
+      let entries = and_parts each below own.1 in
+      let few = and_parts (leb (totals_in T).vertices most_in_all) (leb (totals_in T).triangles most_in_all) entries.1 in
+      let lent = and_parts (leb (3 * (totals_in T).vertices) v) (leb (3 * (totals_in T).triangles) r) parts.1 in (
         entries.0,
         record {
           few = omega (arith, head.1, count);

@@ -30,7 +30,8 @@ fn is_entry_permitted(bodies: u32, length: usize) -> bool
 // Whether a body has room after those of a set: in the table (2), among the vertices (3) and among
 // the triangles (4), which are lent with `lent` elements.
 pub fn check_fit(totals: Totals, body: Topology, lent: Lengths) -> Result<(), Refusal>
-    ensures { answer_of result ≡ first_of (room_tests lent totals (vertex_count body) (triangle_count body)) tt }
+    ensures { let tests = room_tests lent totals (vertex_count body) (triangle_count body) in
+        answer_of result ≡ first_of tests tt }
 {
     if !is_entry_permitted(totals.bodies, lent.table) {
         return Err(Refusal::NoEntry);

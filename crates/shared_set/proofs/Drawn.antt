@@ -3,7 +3,7 @@
 -- or as many zeros, because what is written is the body's where the scan finds it finite, and as
 -- long where not. Assumes nothing.
 use Rattle.std.proofs.Common.{◌≡◌, sym, ap, ◌∙◌, Bool, true, false, cond, List, ℕ, ◌+◌, ◌*◌, ◌≤◌, arith, Float, length}
-use Rattle.laws.proofs.Conjunction.{both_true}
+use Rattle.std.proofs.lemmas.Bool.{and_parts}
 use Rattle.laws.specs.Parts.{part}
 use Rattle.laws.specs.Overwrite.{overwrite}
 use Rattle.laws.proofs.Overlaps.{overwrite-cover}
@@ -64,7 +64,7 @@ module _ (d : Description) (c : List Float) (body : Topology) (first : ℕ) (old
   same_left : (finite : Bool) → finite ≡ fine → left finite list old ≡ left finite alone old
   same_left true h =
       ap (λ (l : List Float). overwrite at l old)
-      (drawn-whole d c (both_true (twist_finite d c) (all_finite alone) (sym h)).0)
+      (drawn-whole d c (and_parts (twist_finite d c) (all_finite alone) (sym h)).0)
   same_left false h =
       ap (λ (n : ℕ). overwrite at (zeros n) old)
       (length-drawn d c shape ∙ sym (length-vertices (twist_taken d c) d c shape))

@@ -17,11 +17,17 @@ impl Fitting<'_> {
     // Checks that all floats of the body's vertices are finite. If one is not (23), it sets the
     // body's whole stretch of the buffer to +0.
     fn check_finite(self, vertices: &mut [f32]) -> Result<(), Refusal>
-        requires { 3 * (self.totals.vertices + vertex_count self.shaped.body) ≤ length vertices.old }
-        ensures answer { let drawn = part (3 * self.entry.totals.vertices) (3 * vertex_count self.entry.shaped.body) vertices.old in
+        requires { 3 * (self.totals.vertices + vertex_count self.shaped.body)
+            ≤ length vertices.old }
+        ensures answer { let f = self.entry in
+            let at = 3 * f.totals.vertices in
+            let drawn = part at (3 * vertex_count f.shaped.body) vertices.old in
             answer_of result ≡ first_of (test not_finite (all_finite drawn) ∷ []) tt }
-        ensures vertices_after { let drawn = part (3 * self.entry.totals.vertices) (3 * vertex_count self.entry.shaped.body) vertices.old in
-            vertices.new ≡ overwrite (3 * self.entry.totals.vertices) (cond (all_finite drawn) drawn (zeros (length drawn))) vertices.old }
+        ensures vertices_after { let f = self.entry in
+            let at = 3 * f.totals.vertices in
+            let drawn = part at (3 * vertex_count f.shaped.body) vertices.old in
+            let left = cond (all_finite drawn) drawn (zeros (length drawn)) in
+            vertices.new ≡ overwrite at left vertices.old }
     {
         let at = 3 * self.totals.vertices;
         let end = at + 3 * self.shaped.body.vertex_count() as usize;
@@ -36,11 +42,15 @@ impl Fitting<'_> {
     // three times its first vertex. A fold (13) leaves the buffer as it was; a vertex, or what a
     // seamless torus is twisted by, that is not finite (23) leaves the stretch at +0.
     pub(crate) fn draw(self, vertices: &mut [f32]) -> Result<(), Refusal>
-        requires { 3 * (self.totals.vertices + vertex_count self.shaped.body) ≤ length vertices.old }
-        ensures answer { let a = taken self.entry.shaped.description self.entry.shaped.curve.now in
+        requires { 3 * (self.totals.vertices + vertex_count self.shaped.body)
+            ≤ length vertices.old }
+        ensures answer { let f = self.entry in
+            let a = taken f.shaped.description f.shaped.curve.now in
             answer_of result ≡ first_of (fold_tests a.description a.curve ++ finite_tests a) tt }
-        ensures vertices_after { let a = taken self.entry.shaped.description self.entry.shaped.curve.now in
-            vertices.new ≡ vertices_after (answer_of result) self.entry.totals (body_alone a) vertices.old }
+        ensures vertices_after { let f = self.entry in
+            let a = taken f.shaped.description f.shaped.curve.now in
+            vertices.new
+            ≡ vertices_after (answer_of result) f.totals (body_alone a) vertices.old }
     {
         bodies::write_unless_folded(self.shaped, &mut vertices[3 * self.totals.vertices..])?;
         self.check_finite(vertices)

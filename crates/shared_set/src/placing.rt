@@ -13,21 +13,24 @@ impl Fitting<'_> {
     // Writes the triangles and the entry of the body, and counts it in word 0.
     pub(crate) fn place(self, table: &mut [u32], triangles: &mut [u32])
         requires table_room { table_words (self.totals.bodies + 1) ≤ length table.old }
-        requires triangles_room { 3 * (self.totals.triangles + triangle_count self.shaped.body) ≤ length triangles.old }
-        ensures table_after { let a = taken self.entry.shaped.description self.entry.shaped.curve.now in
-            table.new ≡ with_entry self.entry.totals.bodies (entry_of self.entry.totals (body_alone a)) table.old }
-        ensures triangles_after { let a = taken self.entry.shaped.description self.entry.shaped.curve.now in
-            triangles.new ≡ with_triangles self.entry.totals (body_alone a) triangles.old }
+        requires triangles_room { 3 * (self.totals.triangles + triangle_count self.shaped.body)
+            ≤ length triangles.old }
+        ensures table_after { let f = self.entry in
+            let a = taken f.shaped.description f.shaped.curve.now in
+            let entry = entry_of f.totals (body_alone a) in
+            table.new ≡ with_entry f.totals.bodies entry table.old }
+        ensures triangles_after { let f = self.entry in
+            let a = taken f.shaped.description f.shaped.curve.now in
+            triangles.new ≡ with_triangles f.totals (body_alone a) triangles.old }
     {
-        let totals = self.totals;
-        let body = self.shaped.body;
-        let description = self.shaped.description;
+        let Fitting { totals, shaped } = self;
+        let body = shaped.body;
         let first = totals.vertices as u32;
         let at = 3 * totals.triangles;
         body.put_triangles(first, &mut triangles[at..]);
         let entry = Entry {
-            kind: description.kind().into(),
-            divisions: description.divisions(),
+            kind: shaped.description.kind().into(),
+            divisions: shaped.description.divisions(),
             vertex: first,
             vertices: body.vertex_count() as u32,
             triangle: totals.triangles as u32,

@@ -5,9 +5,8 @@ use Rattle.std.proofs.Common.{length-append, arith, take_at, take-append-drop, t
 use Rattle.std.proofs.Common.{None, Some}
 use Rattle.streams.specs.Filled.{AppendsFront}
 use Rattle.std.proofs.lemmas.Slice.{take-put_mid_below}
-use Rattle.std.proofs.lemmas.List.{take_rest}
+use Rattle.std.proofs.lemmas.List.{take_rest, take-append-le}
 use borrow.Rule.Slice.PartMut.{put_mid, post_of}
-use lib.Seq.{take-append-le}
 use Rattle.std.specs.Io.KnownBytes.{Keeps, Appends, Consumes, prepend_known}
 
 pub kept_consumes : (a b c : Option (List ℕ)) (bs : List ℕ) → Keeps a b → Consumes b c bs → Consumes a c bs

@@ -4,7 +4,7 @@ use Rattle.std.proofs.Common.{◌≡◌, ℕ, ◌+◌, ◌-◌, ◌*◌, ◌/◌
 use Rattle.std.proofs.Common.{◌&&◌, List, ◌++◌, ◌∙◌, refl, sym, ap, subst, arith, length, take}
 use Rattle.std.proofs.Common.{length-append, le-leb, leb-true, leb-false}
 use Rattle.std.proofs.Common.{leb, Option, None, Some, Result, Ok, Err}
-use borrow.Author.Tests.{lt-leb}
+use Rattle.std.proofs.lemmas.Bool.{lt-leb}
 use Rattle.std.proofs.Math.ListN.{get_or-append}
 use Rattle.laws.specs.Overwrite.{placed}
 use Rattle.laws.proofs.Lent.{part-written}

@@ -60,10 +60,10 @@ fn write_some<W: Write>(output: &mut W, buf: &[u8]) -> io::Result<usize>
 }
 
 // Reads until `buf` is full, the input ends or a read fails. Answers how many bytes were read: all
-// of `buf`, or fewer where the input ended. This loop and the next have no range to go over: a call
-// moves as many bytes as it likes, and none where the input ends or the output takes no more. The
-// library's `read_exact` does not say how many bytes there were, nor its `write_all` which of them
-// were written where it fails.
+// of `buf`, or fewer where the input ended. This loop and the next have no range to go over: a
+// call moves as many bytes as it likes, and none where the input ends or the output takes no more.
+// The library's `read_exact` does not say how many bytes there were, nor its `write_all` which of
+// them were written where it fails.
 pub fn read_full<R: Read>(input: &mut R, buf: &mut [u8]) -> io::Result<usize>
     ensures count { IfOk result (λ count. count ≤ length buf.old) }
     ensures bytes { FilledFrom (R.remaining input.old) (R.remaining input.new) result buf.new }

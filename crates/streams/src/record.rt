@@ -7,17 +7,19 @@ ghost use Rattle.streams.specs.declared.record.Stop.TheVariants.{Failed};
 
 use crate::read_full;
 use little_endian::read_words;
-use records::{HEAD_WORDS, record_length};
+use records::{HEAD_WORDS, MOST_VERTICES, record_length};
 use std::fmt;
 use std::fmt::{Display, Formatter};
 use std::io::{Error, Read};
 
 // The words of the longest record: a head and 512 vertices.
-pub const RECORD_WORDS: usize = 7 + 3 * 512;
+pub const RECORD_WORDS: usize = HEAD_WORDS + 3 * MOST_VERTICES;
 
+// The bytes of the longest record.
 pub const RECORD_BYTES: usize = 4 * RECORD_WORDS;
 
-// Why the reading of records stops.
+// Why the reading of records stops. The text, `Error` and `From` are written by hand, since what
+// `thiserror` derives has no contract: the program `sweep` needs the text and the error.
 #[derive(Clone, Copy, Debug)]
 pub enum Stop {
     // The input ends where a record would begin.
@@ -90,8 +92,7 @@ pub fn read_record<R: Read>(
     ensures alone { ReadAs result words.new }
     ensures bytes { ReadFrom (R.remaining input.old) (R.remaining input.new) result words.new }
 {
-    let front = HEAD_WORDS;
-    let head = 4 * front;
+    let head = 4 * HEAD_WORDS;
     let read = read_full(input, &mut bytes[..head])?;
     if read == 0 {
         return Err(Stop::End);
@@ -100,8 +101,6 @@ pub fn read_record<R: Read>(
         return Err(Stop::Short);
     }
     read_words(&bytes[..head], words);
-    let Some(count) = record_length(&words[..front]) else {
-        return Err(Stop::TooLong);
-    };
+    let count = record_length(&words[..HEAD_WORDS]).ok_or(Stop::TooLong)?;
     read_curve(input, count, bytes, words)
 }

@@ -1,8 +1,7 @@
 -- Records that were read and added, one after the other: of the known bytes of the input, where
 -- there are any, they are the front. Assumes nothing.
 use Rattle.std.proofs.Common.{◌≡◌, refl, sym, ap, ◌∙◌, List, [], ◌++◌, ℕ, ◌+◌, ◌*◌, ◌≤◌, ◌<◌}
-use Rattle.std.proofs.Common.{length, take, length-take-le, length-append, arith, IfSome, Option}
-use Rattle.std.proofs.Common.{None, Some}
+use Rattle.std.proofs.Common.{length, take, length-take-le, length-append, arith, Option}
 use Rattle.std.specs.Io.KnownBytes.{Consumes}
 use Rattle.std.proofs.KnownBytes.{Consumes-nil, Consumes-trans}
 use Rattle.little_endian.specs.Words.{words_in}
@@ -10,11 +9,9 @@ use Rattle.set_table.specs.Buffers.{Buffers}
 use Rattle.ledger.specs.Calls.{Called, additions}
 use Rattle.records.specs.Records.{record_words, first_addition}
 use Rattle.records.proofs.Additions.{additions-append}
-use Rattle.streams.specs.declared.record.Stop.{Stop}
-use Rattle.streams.specs.Record.{StopsBefore}
 use Rattle.streams.proofs.Words.{words-append}
-use Rattle.sweep.specs.Input.{Records, none, then, record_count, EachWhole, additions_from, AfterRecords}
-use Rattle.sweep.specs.Known.{words_of, AddedFrom}
+use Rattle.sweep.specs.Input.{Records, none, then, record_count, EachWhole, additions_from}
+use Rattle.sweep.specs.Known.{words_of}
 
 -- the front of the words that were read, which is as long as the record there, is that record
 pub read_whole : (end : ℕ) (words : List ℕ) → end ≤ length words → end ≡ record_words (take end words)
@@ -65,27 +62,3 @@ one-read words bytes {before = before} so_far some is taken sized read added =
       left = added ∙ ap (λ (s : Buffers). (additions (first_addition words) s).left) so_far.left
           ∙ sym (ap (λ (r : Called). r.left) (additions-append (additions_from so_far.records) (first_addition words) before));
     }
-
-pub after_records : {old new : Option (List ℕ)} {count : ℕ} {before after : Buffers} → SoFar old new count before after
-    → AfterRecords count before after
-after_records so_far =
-    record { records = so_far.records; counted = so_far.counted; whole = so_far.whole; left = so_far.left }
-
--- the reading stopped where it had come
-pub stopped_here : (old new : Option (List ℕ)) (stop : Option Stop) (count : ℕ) (before after : Buffers)
-    → SoFar old new count before after
-    → IfSome new (λ rest. IfSome stop (λ why. StopsBefore why rest)) → IfSome old (λ bytes. AddedFrom bytes stop count before after)
-stopped_here None new stop count before after so_far h = tt
-stopped_here (Some bytes) None stop count before after so_far h = absurd so_far.taken
-stopped_here (Some bytes) (Some rest) stop count before after so_far h = record {
-  records = so_far.records;
-  read = so_far.read;
-  rest = rest;
-  counted = so_far.counted;
-  whole = so_far.whole;
-  front = so_far.taken;
-  words = so_far.words;
-  sized = so_far.sized;
-  stopped = h;
-  left = so_far.left;
-}

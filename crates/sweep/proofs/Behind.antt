@@ -7,7 +7,7 @@ use Rattle.std.proofs.Common.{false, IfSome, Option, None, Some}
 use Rattle.std.proofs.Math.ListN.{get_or-append}
 use Rattle.std.specs.Float.{binary32}
 use Rattle.std.specs.Float.Ieee.{of_bits}
-use lib.Seq.{take-append-le, drop-append-le}
+use Rattle.std.proofs.lemmas.List.{take-append-le, drop-append-le}
 use Rattle.laws.specs.Parts.{part}
 use Rattle.little_endian.specs.Words.{words_in}
 use Rattle.set_table.specs.Buffers.{Buffers}

@@ -3,8 +3,8 @@
 use Rattle.std.proofs.Common.{◌≡◌, refl, sym, ap, ◌∙◌, Bool, true, false, cond, List, [], ◌++◌, map}
 use Rattle.std.proofs.Common.{ℕ, ◌-◌, ◌*◌, ◌/◌, ◌≤◌, min, arith, le-leb, leb, to_bits, length}
 use Rattle.std.proofs.Common.{get_or, take, drop, length-append, length-drop, length-take}
-use lib.Ieee.{binary32}
-use lib.ListN.{length-map}
+use Rattle.std.specs.Float.{binary32}
+use Rattle.std.proofs.lemmas.List.{length-map}
 use Rattle.laws.specs.Parts.{part}
 use Rattle.laws.specs.Overwrite.{overwrite, placed}
 use Rattle.laws.proofs.Blocks.{length-blocks}

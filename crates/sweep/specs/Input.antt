@@ -1,9 +1,10 @@
 -- What is made of standard input: "reads records of such words from standard input .. skips
 -- refused records and kinds outside 1 to 5, stops at a short record or a curve count over 512"
 -- (document 01, 'The shared set'); "Refusal 1 and the program admit kind 6" (document 02, No. 1).
--- Which records a file or a pipe holds no contract can say; that the buffers are what the additions
--- of whole records leave, as many as were counted, and that nothing else is done to them, it can.
--- Known.antt says which records they are, where the bytes of the input are known. Definitions only.
+-- Which records a file or a pipe holds no contract can say; that the buffers are what the
+-- additions of whole records leave, as many as were counted, and that nothing else is done to
+-- them, it can. Known.antt says which records they are, where the bytes of the input are known.
+-- Definitions only.
 use Rattle.std.specs.Prelude.{◌≡◌, List, [], ◌++◌, ℕ, ◌+◌, ◌<◌, length}
 use Rattle.set_table.specs.Buffers.{Buffers}
 use Rattle.ledger.specs.Calls.{Call, additions}

@@ -1,4 +1,5 @@
--- The set that the program keeps, as the three buffers of every contract on sets. Definitions only.
+-- The set that the program keeps, as the three buffers of every contract on sets. Definitions
+-- only.
 use Rattle.set_table.specs.Buffers.{Buffers, buffers}
 use Rattle.sweep.specs.declared.set.SetBuffers.{SetBuffers}
 

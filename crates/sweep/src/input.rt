@@ -14,9 +14,9 @@ use streams::{RECORD_BYTES, RECORD_WORDS, Stop, read_record};
 #[derive(Clone, Copy, Debug)]
 pub(crate) struct Reading {
     // How many records were added.
-    pub(crate) count: u64,
+    pub count: u64,
     // Why there are no more. None if the input went on after as many as can be counted.
-    pub(crate) stop: Option<Stop>,
+    pub stop: Option<Stop>,
     ghost endless: { IsNone stop ↔ (count ≡ 18446744073709551615) },
 }
 

@@ -59,14 +59,16 @@ pub(crate) fn report_reading<E: Write>(errors: &mut E, reading: Reading) -> io::
     match reading.stop {
         None | Some(Stop::End) => Ok(()),
         Some(Stop::Failed(error)) => {
-            let what = "standard input could not be read; the set has only the records before that";
+            let what = "standard input could not be read; \
+                the set has only the records before that";
             say_failure(errors, what, error)
         }
         Some(fault) => say(errors, reading.count + 1, fault),
     }
 }
 
-// Says on `errors` that the set was not written, if it was not.
+// Says on `errors` that the set was not written, if it was not. By a match: `or_else` does not say
+// that `errors` is as it was where its closure is not called.
 pub(crate) fn report_writing<E: Write>(errors: &mut E, writing: io::Result<()>) -> io::Result<()>
     ensures { IsOk writing → Keeps (E.contents errors.old) (E.contents errors.new) }
 {

@@ -18,8 +18,8 @@ use std::io::{Read, Write};
 // What became of a run.
 #[derive(Clone, Copy, Debug)]
 pub(crate) struct Run {
-    pub(crate) reading: Reading,
-    pub(crate) writing: io::Result<()>,
+    pub reading: Reading,
+    pub writing: io::Result<()>,
 }
 
 // Clears the set, adds the body of each record of `input`, and writes the set's file to `output`.

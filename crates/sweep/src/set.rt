@@ -1,4 +1,4 @@
-// A table of the most bodies.
+// How many words a full table has: word 0, and six for each of 64 entries.
 pub(crate) const TABLE: usize = 1 + 6 * 64;
 
 // The elements of the vertex buffer, and of the triangle buffer.
@@ -10,7 +10,7 @@ pub(crate) const ELEMENTS: usize = 12288;
 // may give to another crate's type, and `neighbours` holds the bits of the coordinates.
 #[derive(Drop)]
 pub(crate) struct SetBuffers {
-    pub(crate) table: [u32; TABLE],
-    pub(crate) vertices: [f32; ELEMENTS],
-    pub(crate) triangles: [u32; ELEMENTS],
+    pub table: [u32; TABLE],
+    pub vertices: [f32; ELEMENTS],
+    pub triangles: [u32; ELEMENTS],
 }

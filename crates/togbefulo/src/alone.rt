@@ -4,10 +4,10 @@
 // is ignored. Answers are document 01's numbers, 0 for what is accepted, and 2^32 − 1 for an
 // unknown kind. The C interface needs both, the sizes one by one and the numbers.
 ghost use Rattle.std.specs.Prelude.{◌≡◌};
-ghost use Rattle.float32.specs.Scan.{all_finite};
 ghost use Rattle.laws.specs.Overwrite.{placed};
 ghost use Rattle.descriptions.specs.KindNumbers.{described_of};
-ghost use Rattle.togbefulo.specs.Face.{check_number, counts_number, counts_after, is_drawn, drawn_vertices};
+ghost use Rattle.togbefulo.specs.Face.{check_number, counts_number, counts_after, is_drawn};
+ghost use Rattle.togbefulo.specs.Face.{drawn_vertices};
 
 use crate::described::{UNKNOWN_KIND, described};
 use crate::words::put;
@@ -26,7 +26,8 @@ pub extern "C" fn togbefulo_counts(
     vertices: usize,
     counts: &mut [u32; 2],
 ) -> u32
-    ensures number { result ≡ counts_number (described_of kind divisions steps centred size length) vertices }
+    ensures number { let d = described_of kind divisions steps centred size length in
+        result ≡ counts_number d vertices }
     ensures counts_after { let d = described_of kind divisions steps centred size length in
         counts.new ≡ counts_after d vertices counts.old }
 {
@@ -48,7 +49,8 @@ pub extern "C" fn togbefulo_check(
     length: f32,
     curve: &[f32],
 ) -> u32
-    ensures { result ≡ check_number (described_of kind divisions steps centred size length) curve.now }
+    ensures { let d = described_of kind divisions steps centred size length in
+        result ≡ check_number d curve.now }
 {
     let Some(description) = described(kind, divisions, steps, centred, size, length) else {
         return UNKNOWN_KIND;
@@ -79,12 +81,4 @@ pub extern "C" fn togbefulo_vertices(
         return false;
     };
     bodies::write_vertices(description, curve, out)
-}
-
-// Whether every value is finite.
-#[unsafe(no_mangle)]
-pub extern "C" fn togbefulo_are_finite(values: &[f32]) -> bool
-    ensures { result ≡ all_finite values.now }
-{
-    float32::are_finite(values)
 }

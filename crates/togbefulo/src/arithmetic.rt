@@ -1,9 +1,11 @@
-// Arithmetic: the square root, bit patterns and directions, defined for every argument.
+// Arithmetic: the square root, finiteness, bit patterns and directions, defined for every
+// argument.
 ghost use Rattle.std.specs.Prelude.{◌≡◌};
 ghost use Rattle.std.specs.Float.{binary32};
 ghost use Rattle.std.specs.Float.Ieee.{of_bits, to_bits};
 ghost use Rattle.std.specs.Float.Ieee.Scale.{finite};
 ghost use Rattle.float32.specs.Root.{root_of};
+ghost use Rattle.float32.specs.Scan.{all_finite};
 ghost use Rattle.vec3.specs.Turns.{turn_of};
 
 // IEEE 754's square root.
@@ -22,6 +24,14 @@ pub extern "C" fn togbefulo_is_finite(x: f32) -> bool
     float32::is_finite(x)
 }
 
+// Whether every value is finite.
+#[unsafe(no_mangle)]
+pub extern "C" fn togbefulo_are_finite(values: &[f32]) -> bool
+    ensures { result ≡ all_finite values.now }
+{
+    float32::are_finite(values)
+}
+
 // The bit pattern of x, the same one for all NaNs.
 #[unsafe(no_mangle)]
 pub extern "C" fn togbefulo_to_word(x: f32) -> u32
@@ -38,7 +48,8 @@ pub extern "C" fn togbefulo_from_word(w: u32) -> f32
     float32::from_word(w)
 }
 
-// The cosine of k / n turn if k < n ≤ 2 ^ 24, and otherwise of no turn.
+// The cosine of k / n turn if k < n ≤ 2 ^ 24, and otherwise of no turn. A C function hands back
+// one number, so the sine has a function of its own.
 #[unsafe(no_mangle)]
 pub extern "C" fn togbefulo_turn_cos(k: u32, n: u32) -> f32
     ensures { result ≡ (turn_of k n).cos }

@@ -30,9 +30,11 @@ pub extern "C" fn togbefulo_tube_triangles(
     first: u32,
     out: &mut [u32],
 ) -> bool
-    ensures written { let body = Topology.Tube (record { divisions = divisions; segments = segments }) in
+    ensures written { let body = Topology.Tube
+        (record { divisions = divisions; segments = segments }) in
         result ≡ writable body first (length out.old) }
-    ensures out_after { let body = Topology.Tube (record { divisions = divisions; segments = segments }) in
+    ensures out_after { let body = Topology.Tube
+        (record { divisions = divisions; segments = segments }) in
         out.new ≡ placed result (flatten (shift first (triangles_of body))) out.old }
 {
     Topology::Tube(Tube {
@@ -75,9 +77,11 @@ pub extern "C" fn togbefulo_torus_triangles(
     first: u32,
     out: &mut [u32],
 ) -> bool
-    ensures written { let body = Topology.Torus (record { divisions = divisions; vertices = vertices }) in
+    ensures written { let body = Topology.Torus
+        (record { divisions = divisions; vertices = vertices }) in
         result ≡ writable body first (length out.old) }
-    ensures out_after { let body = Topology.Torus (record { divisions = divisions; vertices = vertices }) in
+    ensures out_after { let body = Topology.Torus
+        (record { divisions = divisions; vertices = vertices }) in
         out.new ≡ placed result (flatten (shift first (triangles_of body))) out.old }
 {
     Topology::Torus(Torus {
@@ -95,9 +99,11 @@ pub extern "C" fn togbefulo_closed_cylinder_triangles(
     first: u32,
     out: &mut [u32],
 ) -> bool
-    ensures written { let body = Topology.ClosedCylinder (record { divisions = divisions; layers = layers }) in
+    ensures written { let body = Topology.ClosedCylinder
+        (record { divisions = divisions; layers = layers }) in
         result ≡ writable body first (length out.old) }
-    ensures out_after { let body = Topology.ClosedCylinder (record { divisions = divisions; layers = layers }) in
+    ensures out_after { let body = Topology.ClosedCylinder
+        (record { divisions = divisions; layers = layers }) in
         out.new ≡ placed result (flatten (shift first (triangles_of body))) out.old }
 {
     Topology::ClosedCylinder(ClosedCylinder { divisions, layers }).write_triangles(first, out)

@@ -1,8 +1,8 @@
 // Replays a fixed list of additions: reads its steps from standard input, fills the buffers with
 // garbage, clears the table, and prints a line for each step. What it must print was made outside
 // Rattle, by tests/src/bin/worked_additions.rs from the adapted functions of del-msh and the
-// readings of document 01. That output is compared, so the contracts here serve only to prove the
-// program safe and ending.
+// readings of document 01. That output is compared, so no function here has a contract: the check
+// proves the program safe, and ending, for which the steps have a ghost `remaining`.
 #![tactic(auto)]
 
 mod buffers;
@@ -33,8 +33,8 @@ fn read_input<'a, R: Read>(
     Ok(&words[..count / 4])
 }
 
-// Does all steps, and writes a line for each: the number that its addition answered, and the digest
-// of what the buffers then hold.
+// Does all steps, and writes a line for each: the number that its addition answered, and the
+// digest of what the buffers then hold.
 fn replay<W: Write>(out: &mut W, steps: Steps<'_>) -> io::Result<()> {
     let mut buffers = Buffers::prepared();
     for step in steps {

@@ -1,6 +1,6 @@
 // The head line of a case.
 use crate::cases::Case;
-use descriptions::{Counts, Description, Sizes};
+use descriptions::{Description, Sizes};
 use float32::to_word;
 use hex_lines::Words;
 use std::fmt;
@@ -66,12 +66,7 @@ impl fmt::Display for Case {
         ];
         write!(f, "{kind} {} ", Words(&words))?;
         match description.counts(curve.len() / 3) {
-            Ok(
-                Counts {
-                    vertices,
-                    triangles,
-                },
-            ) => write!(f, "{}", Words(&[vertices, triangles])),
+            Ok(counts) => write!(f, "{}", Words(&<[u32; 2]>::from(counts))),
             Err(why) => write!(f, "{}", Words(&[why.into()])),
         }
     }

@@ -1,9 +1,9 @@
-// The bit patterns of a point's coordinates.
 use float32::{from_word, to_word};
 use hex_lines::Words;
 use std::fmt;
 use vec3::Point;
 
+// The bit patterns of a point's coordinates.
 #[derive(Clone, Copy, Debug)]
 pub(crate) struct Bits(pub [u32; 3]);
 

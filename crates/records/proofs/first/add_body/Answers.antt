@@ -1,6 +1,7 @@
 -- What is lent as the curve is the front of `scratch` that was filled with its floats. Assumes
 -- nothing.
-use Rattle.std.proofs.Common.{◌≡◌, ap, ◌∙◌, List, map, ℕ, ◌+◌, ◌≤◌, arith, Float, length, take}
+use Rattle.std.proofs.Common.{◌≡◌, ap, ◌∙◌, List, map, ℕ, ◌+◌, ◌≤◌, arith, Float, length, replicate, take}
+use Rattle.std.proofs.lemmas.List.{length-replicate}
 use Rattle.std.specs.Float.{binary32}
 use Rattle.std.specs.Float.Ieee.{of_bits}
 use Rattle.std.proofs.Math.ListN.{length-map}
@@ -27,4 +28,5 @@ returns c =
     let s = buffers a.table.now a.vertices.now a.triangles.now in
     c.add.ensures
     ∙ ap (λ (l : List Float). added (taken a.description l) s)
-    (filled a.coordinates.now a.scratch.now c.fill_floats.new.out c.requires c.fill_floats.ensures)
+    (filled a.coordinates.now (replicate 1536 (of_bits binary32 0)) c.fill_floats.new.out
+    (omega (arith, c.requires, length-replicate 1536 (of_bits binary32 0))) c.fill_floats.ensures)

@@ -1,10 +1,12 @@
 -- A record that is none, or of no kind, asks for no addition; any other for the one that is made.
 -- Assumes nothing.
-use Rattle.std.proofs.Common.{◌≡◌, sym, ap, ◌∙◌, true, List, [], map, ℕ, ◌+◌, ◌-◌, ◌*◌, ◌≤◌, arith, Float, length, take, drop, Option, Some, None}
+use Rattle.std.proofs.Common.{◌≡◌, sym, ap, ◌∙◌, true, not, List, [], map, ℕ, ◌+◌, ◌-◌, ◌*◌, ◌≤◌, eqb, arith, Float}
+use Rattle.std.proofs.Common.{length, take, drop, get_or-take, Option, Some, None}
 use Rattle.std.specs.Float.{binary32}
 use Rattle.std.specs.Float.Ieee.{of_bits}
 use borrow.Rule.Slice.PartAt.{part_count}
 use Rattle.descriptions.specs.declared.description.Description.{Description}
+use Rattle.descriptions.specs.KindNumbers.{described_of}
 use Rattle.set_table.specs.Buffers.{buffers}
 use Rattle.shared_set.specs.Additions.{taken}
 use Rattle.shared_set.specs.Set.{After, added}
@@ -40,6 +42,18 @@ module _ (words : List ℕ) (end : ℕ) (named : Some end ≡ unless_zero (recor
   few : length (take (end - 7) (drop 7 words)) ≤ 1536
   few = omega (arith, part_count words 7 end inside, long, there.few)
 
+  -- what its head describes
+  described : {head : List ℕ} → head ≡ take 7 words → described_in head ≡ described_in words
+  described is =
+      let w0 = get_or-take 7 words 0 0 (omega arith) in
+      let w1 = get_or-take 7 words 1 0 (omega arith) in
+      let w2 = get_or-take 7 words 2 0 (omega arith) in
+      let w3 = get_or-take 7 words 3 0 (omega arith) in
+      let w4 = get_or-take 7 words 4 0 (omega arith) in
+      let w5 = get_or-take 7 words 5 0 (omega arith) in
+      ap described_in is
+      ∙ (λ j. described_of (w0 j) (w1 j) (w2 j) (not (eqb (w3 j) 0)) (of_bits binary32 (w4 j)) (of_bits binary32 (w5 j)))
+
   -- what it asks for
   asked : (d : Option Description) → d ≡ described_in words → addition_of d (curve_in words) ≡ first_addition words
   asked d known = ap (λ (k : Option Description). addition_of k (curve_in words)) known ∙ sym (first-addition words begins)
@@ -55,8 +69,10 @@ returns-in_err-end c =
     let none = no_record a.words.now (unless_zero-none c.in_err-end.ensures) in
     rw c.from_residual.ensures (ap (λ (list : List Call). additions list s) (sym (no-addition a.words.now none)))
 
-pub describe-requires : goal.describe-requires
-describe-requires c = (there c.args.words.now c.in_ok-end.end c.in_ok-end.ensures).head
+pub returns-in_err-head : goal.returns-in_err-head
+returns-in_err-head c =
+    let none : ⊥ = omega (arith, (there c.args.words.now c.in_ok-end.end c.in_ok-end.ensures).head, c.in_err-head.ensures.cases) in
+    absurd none
 
 pub slice_bounds-coordinates-end : goal.slice_bounds-coordinates-end
 slice_bounds-coordinates-end c = (inside c.args.words.now c.in_ok-end.end c.in_ok-end.ensures).1
@@ -68,15 +84,17 @@ pub returns-in_err-description : goal.returns-in_err-description
 returns-in_err-description c =
     let a = c.args in
     let s = buffers a.table.now a.vertices.now a.triangles.now in
+    let known = described a.words.now c.in_ok-end.end c.in_ok-end.ensures c.in_ok-head.ensures.cases.0 in
     rw c.from_residual-in_err-description.ensures
     (ap (λ (list : List Call). additions list s)
-    (asked a.words.now c.in_ok-end.end c.in_ok-end.ensures None c.in_err-description.ensures))
+    (asked a.words.now c.in_ok-end.end c.in_ok-end.ensures None (c.in_err-description.ensures ∙ known)))
 
 pub returns : goal.returns
 returns c =
     let a = c.args in
     let s = buffers a.table.now a.vertices.now a.triangles.now in
     let d = c.in_ok-description.description in
+    let known = described a.words.now c.in_ok-end.end c.in_ok-end.ensures c.in_ok-head.ensures.cases.0 in
     ap once (c.add_body.ensures ∙ ap (λ (l : List Float). added (taken d l) s) (curve a.words.now c.in_ok-end.end c.in_ok-end.ensures))
     ∙ ap (λ (list : List Call). additions list s)
-    (asked a.words.now c.in_ok-end.end c.in_ok-end.ensures (Some d) c.in_ok-description.ensures)
+    (asked a.words.now c.in_ok-end.end c.in_ok-end.ensures (Some d) (c.in_ok-description.ensures ∙ known))

@@ -5,7 +5,7 @@ use Rattle.records.proofs.head.describe.Goals as goal
 
 pub returns : goal.returns
 returns c =
-    let words = c.args.words.now in
+    let words = c.args.head.now in
     let size = c.from_word.ensures in
     let length = c.from_word-2.ensures in
     c.of_kind.ensures

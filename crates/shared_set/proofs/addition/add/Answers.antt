@@ -2,7 +2,7 @@
 -- 23; an accepted body's entry, vertices and triangles are those of the body alone. Assumes
 -- nothing.
 use Rattle.std.proofs.Common.{◌≡◌, refl, ap, ◌∙◌, false, eqb, List, ◌++◌, ℕ, Float, length}
-use denote.Bor.{Bor}
+use Rattle.std.proofs.Common.{Bor}
 use Rattle.std.proofs.lemmas.Result.{err_from_is_err_and}
 use Rattle.kinds.specs.Kinds.{vertex_count, triangle_count}
 use Rattle.kinds.specs.declared.topology.Topology.{Topology}

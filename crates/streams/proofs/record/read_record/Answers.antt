@@ -2,8 +2,9 @@ use Rattle.std.proofs.Common.{◌≡◌, ℕ, ◌/◌, Bool, List, subst, take_a
 use Rattle.std.proofs.Common.{sym, ap, arith, length, take, drop, length-take-le}
 use Rattle.std.proofs.Common.{leb}
 use Rattle.std.proofs.KnownBytes.{Consumes-whole}
+use Rattle.std.proofs.lemmas.Result.{err_from_is_err_and}
 use Rattle.std.specs.Io.KnownBytes.{Consumes}
-use lib.Seq.{take-append-le}
+use Rattle.std.proofs.lemmas.List.{take-append-le}
 use Rattle.laws.specs.Overwrite.{placed}
 use Rattle.records.specs.Records.{length_named}
 use Rattle.records.proofs.Lengths.{named-bounds, unless_zero-some, unless_zero-none}
@@ -39,20 +40,22 @@ returns-then-read-head-clause-bytes g c =
     Consumes-whole _ _ few (StopsBefore Short) told.bytes.0 (told.bytes.1 (omega arith))
     (omega (arith, sized), no_head few (omega arith))
 
-pub returns-in_default-clause-bytes : goal.returns-in_default-clause-bytes
-returns-in_default-clause-bytes g c =
+pub returns-in_err-count-clause-bytes : goal.returns-in_err-count-clause-bytes
+returns-in_err-count-clause-bytes g c =
     let head = c.read_full.new.buf in
     let sized : length head ≡ 28 = omega (arith, length-take-le 28 c.args.bytes.now (omega arith)) in
     let space : 1543 ≡ length c.args.words.now = omega arith in
     let words = read head c.args.bytes.now c.args.words.now sized space c.read_words.ensures.fits c.read_words.ensures.written in
     let none : length_named (words_in head) ≡ 0 =
-    sym (ap length_named words) ∙ unless_zero-none c.in_default.ensures in
+    sym (ap length_named words) ∙ unless_zero-none (sym c.in_err-count.ensures.ok_part ∙ c.record_length.ensures) in
     let taken = subst (Consumes _ _) (take_all c.in_ok-read.read head (omega arith)) c.in_ok-read.ensures.bytes.0 in
-    by_front _ _ head (StopsBefore TooLong) taken (λ more. still_too_many head more sized none)
+    let p = err_from_is_err_and c.from_residual-in_err-count.result c.from_residual-in_err-count.ensures.1 in
+    let why : p.0 ≡ TooLong = grind arith in
+    rw (p.1, why) (by_front _ _ head (StopsBefore TooLong) taken (λ more. still_too_many head more sized none))
 
 pub read_curve-requires-clause-fits : goal.read_curve-requires-clause-fits
 read_curve-requires-clause-fits g c =
-    let told = unless_zero-some c.in-Some.ensures in
+    let told = unless_zero-some (sym c.in_ok-count.ensures.ok_part ∙ c.record_length.ensures) in
     (named-bounds _ told.0 (λ none. omega arith)).1
 
 pub read_curve-requires-clause-named : goal.read_curve-requires-clause-named
@@ -62,7 +65,7 @@ read_curve-requires-clause-named g c =
     let sized : length head ≡ 28 = omega (arith, length-take-le 28 old (omega arith)) in
     let space : 1543 ≡ length c.args.words.now = omega arith in
     let words = read head old c.args.words.now sized space c.read_words.ensures.fits c.read_words.ensures.written in
-    (unless_zero-some c.in-Some.ensures).0 ∙ ap length_named (words ∙ ap words_in (sym (in_front head old c.args.words.now sized space)))
+    (unless_zero-some (sym c.in_ok-count.ensures.ok_part ∙ c.record_length.ensures)).0 ∙ ap length_named (words ∙ ap words_in (sym (in_front head old c.args.words.now sized space)))
 
 pub returns-clause-bytes : goal.returns-clause-bytes
 returns-clause-bytes g c =
