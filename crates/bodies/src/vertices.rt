@@ -11,7 +11,7 @@ use crate::folds::check_corners;
 use crate::tables::with_tables;
 use answers::Refusal;
 use descriptions::{Description, Shaped};
-use ring_writers::{Turns, cylinder_closed_end_yup};
+use ring_writers::cylinder_closed_end_yup;
 use seamless_torus::to_trimesh3_seamless_torus;
 use swept_bodies::{
     set_vtx2xyz_for_generalized_cylinder_open_end, to_trimesh3_capsule, to_trimesh3_ribbon,
@@ -26,44 +26,40 @@ fn fill(shaped: Shaped<'_>, directions: &[Point], ez: &mut [Point], out: &mut [f
     requires tables { BodyTables shaped directions.now ez.old }
     ensures { out.new ≡ overwrite 0 (drawn shaped.entry) out.old }
 {
-    let description = shaped.description;
     let curve = shaped.curve;
-    // A ribbon has no rings, and should not wait for the table of directions round them, which is
-    // all zeros before it is filled.
-    if let Description::Ribbon { width } = description {
-        return to_trimesh3_ribbon(out, curve, directions, width);
-    }
-    let mut turns = Turns::none();
-    turns.fill(description.divisions() as u16);
-    match description {
-        // Written above.
-        Description::Ribbon { .. } => {}
-        Description::Tube { radius, .. } => {
+    match shaped.description {
+        Description::Ribbon { width } => to_trimesh3_ribbon(out, curve, directions, width),
+        Description::Tube {
+            divisions: n,
+            radius,
+        } => {
             set_vtx2xyz_for_generalized_cylinder_open_end(
-                out, curve, directions, ez, &turns, radius,
+                out, curve, directions, ez, n as u16, radius,
             )
         }
         Description::Capsule {
+            divisions: n,
             longitudes,
             radius,
-            ..
         } => {
             let longitudes = longitudes as u16;
-            to_trimesh3_capsule(out, curve, directions, ez, &turns, longitudes, radius)
+            to_trimesh3_capsule(out, curve, directions, ez, n as u16, longitudes, radius)
         }
-        Description::Torus { radius, .. } => {
-            to_trimesh3_torus(out, curve, directions, &turns, radius)
-        }
+        Description::Torus {
+            divisions: n,
+            radius,
+        } => to_trimesh3_torus(out, curve, directions, n as u16, radius),
         Description::ClosedCylinder {
+            divisions: n,
             layers,
             centred,
             radius,
             length,
-            ..
-        } => cylinder_closed_end_yup(out, radius, length, &turns, layers as u16, centred),
-        Description::SeamlessTorus { radius, .. } => {
-            to_trimesh3_seamless_torus(out, curve, directions, ez, &turns, radius)
-        }
+        } => cylinder_closed_end_yup(out, radius, length, n as u16, layers as u16, centred),
+        Description::SeamlessTorus {
+            divisions: n,
+            radius,
+        } => to_trimesh3_seamless_torus(out, curve, directions, ez, n as u16, radius),
     }
 }
 

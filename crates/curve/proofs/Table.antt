@@ -1,5 +1,5 @@
 -- The table of directions: its length, each of its directions in a buffer at whose front it was
--- written, and that it has the curve's own folds. Assumes nothing.
+-- written, and that any table of these directions has the curve's own folds. Assumes nothing.
 use Rattle.std.proofs.Common.{◌≡◌, refl, ◌∙◌, not, List, [], ◌∷◌, ℕ, ◌+◌, ◌-◌, ◌≤◌, ◌<◌, mod-lt, arith, Float}
 use Rattle.std.proofs.Common.{length}
 use Rattle.laws.proofs.Blocks.{length-blocks}
@@ -8,7 +8,7 @@ use Rattle.laws.specs.Overwrite.{overwrite}
 use Rattle.surface.specs.Grid.{after_of}
 use Rattle.surface.specs.declared.grid.Chain.{Chain}
 use Rattle.surface.specs.declared.grid.Chain.TheVariants.{Open, Closed}
-use Rattle.vec3.specs.Points.{dot_of, point_in}
+use Rattle.vec3.specs.Points.{point_in}
 use Rattle.vec3.specs.declared.points.Point.{Point}
 use Rattle.curve.specs.Segments.{segment_direction, directions_of}
 use Rattle.curve.specs.Checks.{is_fold, corner_cosine, folds_permitted, cosine_in, no_fold_in, CornersWithin}
@@ -28,25 +28,23 @@ module _ (chain : Chain) (count : ℕ) (c : List Float) where
   table-direction table₀ k room h =
       table-point 0 count (segment_direction chain count c) table₀ k (omega arith) h (omega arith)
 
-  -- c of the table is the curve's
-  table-cosine : (table₀ : List Point) (k : ℕ) {t : List Point} → count ≤ length table₀
-      → t ≡ overwrite 0 (directions_of chain count c) table₀ → k < count → after_of chain count k < count
+  -- c by a table of the curve's directions is the curve's
+  table-cosine : (t : List Point) → ((j : ℕ) → j < count → point_in t j ≡ segment_direction chain count c j)
+      → (k : ℕ) → k < count → after_of chain count k < count
       → cosine_in chain count t k ≡ corner_cosine chain count c k
   unfolding cosine_in corner_cosine
-  table-cosine table₀ k room is h next =
-      (λ i. dot_of (point_in (is i) k) (point_in (is i) (after_of chain count k)))
-      ∙ (λ i. dot_of (table-direction table₀ k room h i) (table-direction table₀ (after_of chain count k) room next i))
+  table-cosine t has k h next = rw (has k h, has (after_of chain count k) next) refl
 
-  -- 13 by the table is 13 of the curve
-  pub folds-in-table : (table₀ : List Point) (corners : ℕ) {t : List Point} → count ≤ length table₀
-      → t ≡ overwrite 0 (directions_of chain count c) table₀ → CornersWithin chain count corners
+  -- 13 by such a table is 13 of the curve
+  pub folds-in-table : (corners : ℕ) (t : List Point)
+      → ((j : ℕ) → j < count → point_in t j ≡ segment_direction chain count c j) → CornersWithin chain count corners
       → no_fold_in chain count corners t ≡ folds_permitted chain count corners c
   unfolding no_fold_in folds_permitted
-  folds-in-table table₀ corners {t} room is within =
+  folds-in-table corners t has within =
       every-cong corners
       (λ k. not (is_fold (cosine_in chain count t k)))
       (λ k. not (is_fold (corner_cosine chain count c k)))
-      (λ k h i. not (is_fold (table-cosine table₀ k room is (within k h).0 (within k h).1 i)))
+      (λ k h i. not (is_fold (table-cosine t has k (within k h).0 (within k h).1 i)))
 
 -- on a loop every segment has one after it, so it has as many corners as segments
 pub loop-corners : (count corners : ℕ) → corners ≤ count → CornersWithin Closed count corners

@@ -8,4 +8,4 @@ mod framex;
 mod segments;
 
 pub use framex::Carried;
-pub use segments::{Segments, put_point, segment_count, vertex};
+pub use segments::{Segments, point, put_point, segment_count, vertex};

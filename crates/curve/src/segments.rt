@@ -9,7 +9,7 @@ use surface::Chain;
 use vec3::Point;
 
 // Reads the point whose coordinates begin at index `at`.
-fn point(floats: &[f32], at: usize) -> Point
+pub fn point(floats: &[f32], at: usize) -> Point
     requires { at + 3 ≤ length floats.now }
     ensures { result ≡ point_at floats.now at }
 {

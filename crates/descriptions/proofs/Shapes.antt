@@ -1,12 +1,17 @@
 -- What it tells of a body's numbers that 10, 20 and 21 do not refuse them. Assumes nothing.
-use Rattle.std.proofs.Common.{◌≡◌, true, ◌&&◌, List, ℕ, ◌-◌, ◌%◌, ◌/◌, ◌≤◌, arith}
+use Rattle.std.proofs.Common.{◌≡◌, true, ◌&&◌, List, ℕ, ◌+◌, ◌-◌, ◌*◌, ◌%◌, ◌/◌, ◌^◌, ◌≤◌, mul-le-mul, arith}
 use Rattle.std.proofs.Common.{Float, length, le-leb, eqb-true}
 use Rattle.std.proofs.lemmas.Bool.{and_parts}
+use Rattle.surface.specs.declared.grid.Chain.{Chain}
+use Rattle.surface.specs.declared.grid.Chain.TheVariants as chain
 use Rattle.kinds.specs.Limits.{segment_count_permitted}
-use Rattle.kinds.specs.Kinds.{permitted}
+use Rattle.kinds.specs.Kinds.{permitted, vertex_count, triangle_count, layers_of}
+use Rattle.kinds.specs.declared.topology.Topology.{Topology}
+use Rattle.kinds.specs.declared.topology.Topology.TheVariants as topology
 use Rattle.kinds.proofs.Bounds.{Bounds, bounds, between-true}
 use Rattle.answers.specs.Answers.{AllPermitted}
-use Rattle.descriptions.specs.Descriptions.{topology_of}
+use Rattle.curve.specs.Segments.{segments_of}
+use Rattle.descriptions.specs.Descriptions.{curve_chain, segment_count, topology_of}
 use Rattle.descriptions.specs.KindNumbers.{divisions_of}
 use Rattle.descriptions.specs.Refusals.{
   least_open,
@@ -51,6 +56,14 @@ divisions-most d h =
       most (ClosedCylinder n S centred r l) = omega arith
       most (SeamlessTorus n r) = omega arith
 
+no_more : (k : Chain) (N : ℕ) → segments_of k N ≤ N
+no_more chain.Open N = omega arith
+no_more chain.Closed N = omega arith
+
+-- there are no more segments than that, either
+pub segments-most : (d : Description) (N : ℕ) → vertices_permitted d N ≡ true → segment_count d N ≤ 4096
+segments-most d N h = omega (arith, vertices-most d N h, no_more (curve_chain d) N)
+
 -- 2 to 4,096 vertices have 1 to 4,095 segments between them
 open-segments : (N : ℕ) → open_vertices_permitted N ≡ true → segment_count_permitted (N - 1) ≡ true
 open-segments N h =
@@ -69,6 +82,27 @@ shape-permitted (SeamlessTorus n r) N h = λ j. h.1.0 j && h.0 j
 
 pub shape-bounds : (d : Description) (N : ℕ) → ShapePermitted d N → Bounds (topology_of d N)
 shape-bounds d N h = bounds (topology_of d N) (shape-permitted d N h)
+
+-- A permitted body alone has no more than 2^28 vertices or triangles, the limit of a whole set.
+pub counts-most : (t : Topology) → permitted t ≡ true → (vertex_count t ≤ 2 ^ 28) × (triangle_count t ≤ 2 ^ 28)
+counts-most t h = most t (bounds t h) where
+  product-most : (n s : ℕ) → n ≤ 256 → s ≤ 8192 → n * s ≤ 2 ^ 21
+  product-most n s a b = mul-le-mul a b
+
+  most : (t : Topology) → Bounds t → (vertex_count t ≤ 2 ^ 28) × (triangle_count t ≤ 2 ^ 28)
+  most (topology.Ribbon k) b = (omega arith, omega arith)
+  most (topology.Tube k) b =
+      let p = product-most k.divisions (k.segments + 1) b.0.1 (omega arith) in
+      (omega arith, omega arith)
+  most (topology.Capsule k) b =
+      let p = product-most k.divisions (layers_of k + 1) b.0.1 (omega arith) in
+      (omega arith, omega arith)
+  most (topology.Torus k) b =
+      let p = product-most k.divisions k.vertices b.0.1 (omega arith) in
+      (omega arith, omega arith)
+  most (topology.ClosedCylinder k) b =
+      let p = product-most k.divisions (k.layers + 1) b.0.1 (omega arith) in
+      (omega arith, omega arith)
 
 -- a curve and a description that 10, 20 and 21 let pass: whole vertices, and a permitted shape
 curve-shape : (d : Description) (c : List Float) → curve_permitted d c ≡ true → round_permitted d ≡ true

@@ -22,10 +22,11 @@ impl fmt::Display for Words<'_> {
     }
 }
 
-// Writes the words of each triple on a line of its own: the vertices or the triangles that they
-// are. Each caller cuts the slice to as many as it has: a count that is handed over beside the
-// slice would have to be held against its length here.
-pub fn write_triples<W: Write>(out: &mut W, triples: &[[u32; 3]]) -> io::Result<()> {
+// Writes the words three to a line: the vertices or the triangles that they are. One or two words
+// that are left at the end are not written. Each caller cuts the slice to as many as it has: a
+// count that is handed over beside the slice would have to be held against its length here.
+pub fn write_triples<W: Write>(out: &mut W, words: &[u32]) -> io::Result<()> {
+    let (triples, _) = words.as_chunks::<3>();
     for triple in triples {
         writeln!(out, "{}", Words(triple))?;
     }

@@ -4,6 +4,7 @@ ghost use Rattle.kinds.specs.Limits.{longitudes_permitted};
 ghost use Rattle.kinds.specs.declared.topology.Topology.TheVariants as topology;
 
 use crate::body::Body;
+use crate::limits;
 use crate::limits::{DIVISIONS, Range, SEGMENTS};
 use surface::{Chain, Ending, Split, Surface};
 
@@ -57,6 +58,14 @@ impl Body for Capsule {
         Self::DIVISIONS.contains(self.divisions as usize)
             && Self::SEGMENTS.contains(self.segments as usize)
             && Self::are_longitudes_permitted(self.longitudes as u32, self.segments)
+    }
+
+    fn vertex_count(self) -> u64 {
+        limits::product(self.divisions, self.layers() + 1) + 2
+    }
+
+    fn triangle_count(self) -> u64 {
+        2 * limits::product(self.divisions, self.layers() + 1)
     }
 
     fn surface(self) -> Surface {

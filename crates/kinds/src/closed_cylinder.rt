@@ -1,6 +1,7 @@
 ghost use Rattle.kinds.specs.declared.topology.Topology.TheVariants as topology;
 
 use crate::body::Body;
+use crate::limits;
 use crate::limits::{DIVISIONS, Range};
 use surface::{Chain, Ending, Split, Surface};
 
@@ -29,6 +30,14 @@ impl Body for ClosedCylinder {
     fn is_permitted(self) -> bool {
         Self::DIVISIONS.contains(self.divisions as usize)
             && Self::LAYERS.contains(self.layers as usize)
+    }
+
+    fn vertex_count(self) -> u64 {
+        limits::product(self.divisions, self.layers as u32 + 1) + 2
+    }
+
+    fn triangle_count(self) -> u64 {
+        2 * limits::product(self.divisions, self.layers as u32 + 1)
     }
 
     fn surface(self) -> Surface {

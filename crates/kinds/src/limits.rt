@@ -1,4 +1,4 @@
-ghost use Rattle.std.specs.Prelude.{◌≡◌};
+ghost use Rattle.std.specs.Prelude.{◌≡◌, ◌*◌, ◌<◌, ◌^◌};
 ghost use Rattle.kinds.specs.Limits.{between};
 
 // The limits of one number of a body. std's ranges have the same method, but `3..=256` is a call,
@@ -30,3 +30,11 @@ pub(crate) const SEGMENTS: Range = Range {
     least: 1,
     most: 4095,
 };
+
+// A product of two sizes, which fits whatever they are.
+pub(crate) fn product(a: u16, b: u32) -> u64
+    ensures product { result ≡ a * b }
+    ensures below { result < 2 ^ 48 }
+{
+    a as u64 * b as u64
+}

@@ -24,6 +24,14 @@ impl Body for Ribbon {
         Self::SEGMENTS.contains(self.segments as usize)
     }
 
+    fn vertex_count(self) -> u64 {
+        2 * (self.segments as u64 + 1)
+    }
+
+    fn triangle_count(self) -> u64 {
+        2 * self.segments as u64
+    }
+
     fn surface(self) -> Surface {
         Surface {
             split: Split::Ribbon,

@@ -54,19 +54,29 @@ impl Topology {
     }
 
     // How many vertices the body has.
-    #[tactic(auto, using(crate::proofs::AsSurface::same_vertices))]
     pub fn vertex_count(self) -> u64
         ensures { result ≡ vertex_count self }
     {
-        self.surface().vertex_count()
+        match self {
+            Topology::Ribbon(k) => k.vertex_count(),
+            Topology::Tube(k) => k.vertex_count(),
+            Topology::Capsule(k) => k.vertex_count(),
+            Topology::Torus(k) => k.vertex_count(),
+            Topology::ClosedCylinder(k) => k.vertex_count(),
+        }
     }
 
     // How many triangles its list has.
-    #[tactic(auto, using(crate::proofs::AsSurface::same_triangles))]
     pub fn triangle_count(self) -> u64
         ensures { result ≡ triangle_count self }
     {
-        self.surface().triangle_count()
+        match self {
+            Topology::Ribbon(k) => k.triangle_count(),
+            Topology::Tube(k) => k.triangle_count(),
+            Topology::Capsule(k) => k.triangle_count(),
+            Topology::Torus(k) => k.triangle_count(),
+            Topology::ClosedCylinder(k) => k.triangle_count(),
+        }
     }
 
     // Writes the body's triangles, with `first` added to each index, to the front of `out`.

@@ -1,6 +1,7 @@
 ghost use Rattle.kinds.specs.declared.topology.Topology.TheVariants as topology;
 
 use crate::body::Body;
+use crate::limits;
 use crate::limits::{DIVISIONS, Range};
 use surface::{Chain, Ending, Split, Surface};
 
@@ -26,6 +27,14 @@ impl Body for Torus {
     fn is_permitted(self) -> bool {
         Self::DIVISIONS.contains(self.divisions as usize)
             && Self::VERTICES.contains(self.vertices as usize)
+    }
+
+    fn vertex_count(self) -> u64 {
+        limits::product(self.divisions, self.vertices as u32)
+    }
+
+    fn triangle_count(self) -> u64 {
+        2 * limits::product(self.divisions, self.vertices as u32)
     }
 
     fn surface(self) -> Surface {

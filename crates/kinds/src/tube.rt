@@ -1,6 +1,7 @@
 ghost use Rattle.kinds.specs.declared.topology.Topology.TheVariants as topology;
 
 use crate::body::Body;
+use crate::limits;
 use crate::limits::{DIVISIONS, Range, SEGMENTS};
 use surface::{Chain, Ending, Split, Surface};
 
@@ -23,6 +24,14 @@ impl Body for Tube {
     fn is_permitted(self) -> bool {
         Self::DIVISIONS.contains(self.divisions as usize)
             && Self::SEGMENTS.contains(self.segments as usize)
+    }
+
+    fn vertex_count(self) -> u64 {
+        limits::product(self.divisions, self.segments as u32 + 1)
+    }
+
+    fn triangle_count(self) -> u64 {
+        2 * limits::product(self.divisions, self.segments as u32)
     }
 
     fn surface(self) -> Surface {

@@ -23,7 +23,8 @@ pub every-cong : (n : ℕ) (f g : ℕ → Bool) → ((k : ℕ) → k < n → f k
 every-cong zero f g h = refl
 every-cong (suc n) f g h = λ i. every-cong n f g (λ k l. h k (omega arith)) i && h n (omega arith) i
 
--- A turn of a loop that keeps the answer so far in a flag.
+-- A turn of a loop that keeps the answer so far in a flag; and one that clears the flag where the
+-- test fails.
 every-next : (i : ℕ) (f : ℕ → Bool) {flag next : Bool} → flag ≡ every i f → next ≡ flag && f i → next ≡ every (i + 1) f
 every-next i f {flag} {next} before is =
     is ∙ ap (λ (b : Bool). b && f i) before ∙ ap (λ (k : ℕ). every k f) (sym (add-one i))
@@ -32,6 +33,10 @@ pub flag-kept : (i : ℕ) (f : ℕ → Bool) {flag next : Bool} → flag ≡ eve
     → next ≡ every (i + 1) f
 flag-kept i f {flag} {next} before kept here =
     every-next i f before (kept ∙ sym (ap (λ (b : Bool). flag && b) here ∙ and-true flag))
+
+pub flag_cleared : (i : ℕ) (f : ℕ → Bool) {next : Bool} → next ≡ false → f i ≡ false → next ≡ every (i + 1) f
+flag_cleared i f {next} cleared fails =
+    every-next i f refl (cleared ∙ sym (ap (λ (b : Bool). every i f && b) fails ∙ and-false (every i f)))
 
 -- A turn of a loop that goes on only while the test holds, and the turn at which it stops.
 pub every_more : (i : ℕ) (f : ℕ → Bool) → every i f ≡ true → f i ≡ true → every (i + 1) f ≡ true

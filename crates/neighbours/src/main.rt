@@ -14,7 +14,7 @@ mod set;
 mod tally;
 
 use crate::compare::compare_wrong;
-use crate::set::Set;
+use crate::set::{ELEMENTS, Set, WORDS};
 use crate::tally::Tally;
 use drawn_bodies::{DrawnTriples, Generator, Triple, triple_of_kinds};
 use std::io;
@@ -29,7 +29,13 @@ const FIRST_STATE: u32 = 644;
 
 // Loads the triple, and compares every element of the buffers.
 fn load(triple: Triple) -> Tally {
-    Set::load(triple).compare(triple)
+    let mut set = Set {
+        table: [0; WORDS],
+        coordinates: [0; ELEMENTS],
+        triangles: [0; ELEMENTS],
+    };
+    set.load(triple);
+    set.compare(triple)
 }
 
 fn main(rt: HostRuntime) -> io::Result<()> {

@@ -1,6 +1,5 @@
 // What the buffers hold before anything is loaded: each buffer has its own pattern, with another
 // word at each place.
-use std::array;
 
 // A pattern, by its first word.
 #[derive(Clone, Copy, Debug)]
@@ -20,8 +19,10 @@ impl Pattern {
         self.0.wrapping_add((place % 65536) as u32)
     }
 
-    // A buffer that is filled with the pattern.
-    pub(crate) fn words<const N: usize>(self) -> [u32; N] {
-        array::from_fn(|place| self.word(place))
+    // Fills the buffer with the pattern.
+    pub(crate) fn fill(self, words: &mut [u32]) {
+        for (place, word) in words.iter_mut().enumerate() {
+            *word = self.word(place);
+        }
     }
 }

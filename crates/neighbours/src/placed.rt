@@ -83,9 +83,10 @@ impl Set {
     pub(crate) fn compare(&self, triple: Triple) -> Tally {
         let mut totals = Counts::default();
         let mut tally = self.compare_table();
+        let mut alone = Alone::NONE;
         let (entries, _) = self.table[1..].as_chunks::<ENTRY>();
         for (entry, case) in entries.iter().zip(triple) {
-            let alone = case.alone();
+            case.write_alone(&mut alone);
             tally = tally
                 + compare_entry(case, totals, alone.counts, entry)
                 + self.compare_body(&alone, totals);

@@ -5,10 +5,10 @@ use float32::{from_word, to_word};
 
 // The words of a table of 64 bodies. A test's numbers do not come from what is tested, so this is
 // not worked out by the crate set_table.
-const WORDS: usize = 385;
+pub(crate) const WORDS: usize = 385;
 
 // Room for the coordinates of 4,096 vertices, and for the indices of as many triangles.
-const ELEMENTS: usize = 12288;
+pub(crate) const ELEMENTS: usize = 12288;
 
 // The buffers of a set, with the bits of its coordinates, since the comparison goes word by word.
 // Why it is a struct of this program's own is said at `SetBuffers` of `sweep`.
@@ -20,16 +20,20 @@ pub(crate) struct Set {
 }
 
 impl Set {
-    // Loads the triple into buffers that are filled with their patterns.
-    pub(crate) fn load(triple: Triple) -> Set {
-        let mut table = markers::TABLE.words();
-        let mut vertices = markers::VERTICES.words::<ELEMENTS>().map(|w| from_word(w));
-        let mut triangles = markers::TRIANGLES.words();
-        load_triple(triple, &mut table, &mut vertices, &mut triangles);
-        Set {
-            table,
-            coordinates: vertices.map(|x| to_word(x)),
-            triangles,
+    // Fills the buffers with their patterns and loads the triple into them. The buffers stay where
+    // they lie: with buffers handed back by value, and floats by `map`, the program took twice as
+    // long.
+    pub(crate) fn load(&mut self, triple: Triple) {
+        let mut vertices = [0f32; ELEMENTS];
+        markers::TABLE.fill(&mut self.table);
+        markers::VERTICES.fill(&mut self.coordinates);
+        markers::TRIANGLES.fill(&mut self.triangles);
+        for (x, word) in vertices.iter_mut().zip(&self.coordinates) {
+            *x = from_word(*word);
+        }
+        load_triple(triple, &mut self.table, &mut vertices, &mut self.triangles);
+        for (word, x) in self.coordinates.iter_mut().zip(&vertices) {
+            *word = to_word(*x);
         }
     }
 }

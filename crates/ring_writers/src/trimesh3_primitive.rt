@@ -38,8 +38,8 @@ fn write_levels(out: &mut [f32], radius: f32, low: f32, height: f32, layers: u16
     }
 }
 
-// Writes the vertices of a closed cylinder to the front of `out`: bottom pole, rings, top pole.
-pub fn cylinder_closed_end_yup(
+// Writes the vertices to the front of `out`, from the directions round a ring.
+fn write_cylinder(
     out: &mut [f32],
     radius: f32,
     height: f32,
@@ -57,4 +57,24 @@ pub fn cylinder_closed_end_yup(
     write_levels(&mut out[3..], radius, low, height, layers, turns);
     let above = 3 + (layers as usize + 1) * turns.ring_floats();
     put_point(out, above, pole(low + height));
+}
+
+// Writes the vertices of a closed cylinder to the front of `out`: bottom pole, rings, top pole.
+pub fn cylinder_closed_end_yup(
+    out: &mut [f32],
+    radius: f32,
+    height: f32,
+    n: u16,
+    layers: u16,
+    centred: bool,
+)
+    requires divisions_permitted { n ≤ 256 }
+    requires layers_permitted { layers ≤ 4096 }
+    requires room { (layers + 1) * (n * 3) + 6 ≤ length out.old }
+    ensures { out.new
+        ≡ overwrite 0 (cylinder_vertices radius height n layers centred) out.old }
+{
+    let mut turns = Turns::none();
+    turns.fill(n);
+    write_cylinder(out, radius, height, &turns, layers, centred);
 }

@@ -72,22 +72,25 @@ pub fn to_trimesh3_seamless_torus(
     curve: &[f32],
     directions: &[Point],
     frames: &mut [Point],
-    turns: &Turns,
+    n: u16,
     r: f32,
 )
     requires closed_curve { ClosedCurve curve.now directions.now }
     requires frames_room { vertices_in curve.now ≤ length frames.old }
-    requires room { vertices_in curve.now * (turns.now * 3) ≤ length out.old }
+    requires divisions_permitted { n ≤ 256 }
+    requires room { vertices_in curve.now * (n * 3) ≤ length out.old }
     ensures { let c = curve.now in
         let N = vertices_in c in
         let radius = drawn_radius r (ends_finite N c) in
-        out.new ≡ overwrite 0 (seamless_vertices (twist_of N c) turns.now radius N c) out.old }
+        out.new ≡ overwrite 0 (seamless_vertices (twist_of N c) n radius N c) out.old }
 {
     let spine = Spine::along(Chain::Closed, curve, directions);
     let found = find_twist(&spine, frames);
+    let mut turns = Turns::none();
+    turns.fill(n);
     let sweep = Sweep {
         spine,
-        turns,
+        turns: &turns,
         radius: drawn_radius(r, found.finite),
     };
     write_rings(out, &sweep, frames, found.twist);

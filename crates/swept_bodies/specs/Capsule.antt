@@ -16,8 +16,9 @@ capsule_part n L r m c g =
 abbrev pub capsule_vertices : ℕ → ℕ → Float → ℕ → List Float → List Float
 capsule_vertices n L r m c = blocks (m + 1) (capsule_part n L r m c)
 
--- what the capsule's writer asks of its sizes: no more longitudes than 21 permits, and room in the
--- buffer
+-- what the capsule's writer asks of its sizes: a ring that the table of turns has room for, no more
+-- longitudes than 21 permits, and room in the buffer
 pub record CapsuleFits (m n L room : ℕ) : Type 0 where
+  pub ring : n ≤ 256
   pub cap : L ≤ 256
   pub within : (2 * L + m - 1) * (n * 3) + 6 ≤ room

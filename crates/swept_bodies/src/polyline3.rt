@@ -22,7 +22,8 @@ use vec3::{Frame, Point};
 // This function and those below, which have del-msh's names, take the curve and the table of its
 // directions, and not a `Spine` in place of the two. That would be no plainer: each would still
 // require that the spine is open, and `fill` of bodies, which calls them, would have to make a
-// spine for five of its six kinds, since the curve of a closed cylinder has no segment.
+// spine for five of its six kinds, since the curve of a closed cylinder has no segment. The
+// functions with del-msh's names take a number of divisions, as those do, and make the table.
 fn write_open(
     ending: Ending,
     out: &mut [f32],
@@ -57,16 +58,19 @@ pub fn set_vtx2xyz_for_generalized_cylinder_open_end(
     curve: &[f32],
     directions: &[Point],
     ez: &mut [Point],
-    turns: &Turns,
+    n: u16,
     r: f32,
 )
     requires open_curve { OpenCurve curve.now directions.now }
     requires ez_room { vertices_in curve.now - 1 ≤ length ez.old }
-    requires room { (vertices_in curve.now - 1 + 1) * (turns.now * 3) ≤ length out.old }
+    requires divisions_permitted { n ≤ 256 }
+    requires room { (vertices_in curve.now - 1 + 1) * (n * 3) ≤ length out.old }
     ensures { let c = curve.now in
-        out.new ≡ overwrite 0 (tube_vertices turns.now r (vertices_in c - 1) c) out.old }
+        out.new ≡ overwrite 0 (tube_vertices n r (vertices_in c - 1) c) out.old }
 {
-    write_open(Ending::Rings, out, curve, directions, ez, turns, r);
+    let mut turns = Turns::none();
+    turns.fill(n);
+    write_open(Ending::Rings, out, curve, directions, ez, &turns, r);
 }
 
 // Writes the vertices of a capsule to the front of `out`. `ez` is scratch space.
@@ -76,20 +80,22 @@ pub fn to_trimesh3_capsule(
     curve: &[f32],
     directions: &[Point],
     ez: &mut [Point],
-    turns: &Turns,
+    n: u16,
     longitudes: u16,
     r: f32,
 )
     requires open_curve { OpenCurve curve.now directions.now }
     requires ez_room { vertices_in curve.now - 1 ≤ length ez.old }
     requires capsule_fits { let m = vertices_in curve.now - 1 in
-        CapsuleFits m turns.now longitudes (length out.old) }
+        CapsuleFits m n longitudes (length out.old) }
     ensures { let c = curve.now in
-        let body = capsule_vertices turns.now longitudes r (vertices_in c - 1) c in
+        let body = capsule_vertices n longitudes r (vertices_in c - 1) c in
         out.new ≡ overwrite 0 body out.old }
 {
+    let mut turns = Turns::none();
+    turns.fill(n);
     let ending = Ending::Caps { longitudes };
-    write_open(ending, out, curve, directions, ez, turns, r);
+    write_open(ending, out, curve, directions, ez, &turns, r);
 }
 
 // Writes the two vertices of a ribbon at a vertex `p` of the curve to the front of `out`: `p`

@@ -15,21 +15,18 @@ use vec3::Point;
 // direction of the segment that leaves it, so the table of directions serves as the table of ez.
 // Why it takes no `Spine` stands at `write_open` of polyline3.rt.
 #[tactic(auto, using(crate::proofs::Parts::torus_parts))]
-pub fn to_trimesh3_torus(
-    out: &mut [f32],
-    curve: &[f32],
-    directions: &[Point],
-    turns: &Turns,
-    r: f32,
-)
+pub fn to_trimesh3_torus(out: &mut [f32], curve: &[f32], directions: &[Point], n: u16, r: f32)
     requires closed_curve { ClosedCurve curve.now directions.now }
-    requires room { vertices_in curve.now * (turns.now * 3) ≤ length out.old }
+    requires divisions_permitted { n ≤ 256 }
+    requires room { vertices_in curve.now * (n * 3) ≤ length out.old }
     ensures { let c = curve.now in
-        out.new ≡ overwrite 0 (torus_vertices turns.now r (vertices_in c) c) out.old }
+        out.new ≡ overwrite 0 (torus_vertices n r (vertices_in c) c) out.old }
 {
+    let mut turns = Turns::none();
+    turns.fill(n);
     let sweep = Sweep {
         spine: Spine::along(Chain::Closed, curve, directions),
-        turns,
+        turns: &turns,
         radius: r,
     };
     Ending::Joined.write_swept(out, &sweep, directions);

@@ -20,9 +20,8 @@ fn write_body<W: Write>(out: &mut W, case: Case) -> io::Result<()> {
         && bodies::write_vertices(description, curve, &mut values)
     {
         let words = values.map(|x| to_word(x));
-        let (vertices, _) = words.as_chunks::<3>();
-        let end = vertices.len().min(body.vertex_count() as usize);
-        write_triples(out, &vertices[..end])?;
+        let count = (body.vertex_count() as usize).min(words.len() / 3);
+        write_triples(out, &words[..3 * count])?;
     }
     Ok(())
 }

@@ -15,9 +15,8 @@ fn write_list<W: Write>(out: &mut W, case: Case) -> io::Result<()> {
     writeln!(out, "{case}")?;
     let mut indices = [0u32; MOST_INDICES];
     if case.body.write_triangles(case.first, &mut indices) {
-        let (triangles, _) = indices.as_chunks::<3>();
-        let end = triangles.len().min(case.body.triangle_count() as usize);
-        write_triples(out, &triangles[..end])?;
+        let count = (case.body.triangle_count() as usize).min(indices.len() / 3);
+        write_triples(out, &indices[..3 * count])?;
     }
     Ok(())
 }

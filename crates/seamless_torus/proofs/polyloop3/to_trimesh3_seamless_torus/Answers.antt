@@ -16,6 +16,6 @@ returns c =
     let radius = c.drawn_radius.ensures ∙ ap (λ (x : Found). drawn_radius a.r x.finite) found in
     c.write_rings.ensures
     ∙ (λ i. let s = c.along-spine.result.segments in
-    overwrite 0 (seamless_vertices (found i).twist a.turns.now (radius i) s.count s.curve.now) a.out.now)
+    overwrite 0 (seamless_vertices (found i).twist (c.fill.ensures i) (radius i) s.count s.curve.now) a.out.now)
     ∙ (λ i. let N = is.count i in let curve = is.same i in
-    overwrite 0 (seamless_vertices (twist_of N curve) a.turns.now (drawn_radius a.r (ends_finite N curve)) N curve) a.out.now)
+    overwrite 0 (seamless_vertices (twist_of N curve) a.n (drawn_radius a.r (ends_finite N curve)) N curve) a.out.now)

@@ -1,5 +1,6 @@
--- The records that were read so far are the front of the input, and were all added. Assumes
--- nothing.
+-- The records that were read so far are the front of the input, and were all added. The range of
+-- the loop is its measure.
+-- Assumes nothing.
 use Rattle.sweep.specs.Set.{held}
 use Rattle.sweep.proofs.AfterRecords.{SoFar}
 use Rattle.sweep.proofs.input.add_records.Given as goal

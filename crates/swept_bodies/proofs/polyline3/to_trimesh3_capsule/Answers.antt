@@ -10,4 +10,4 @@ write_open-requires-clause-room c =
     let m = vertices_in a.curve.now - 1 in
     let segment = c.requires.open_curve.segment in
     let e : 2 * L + m - 1 ≡ L + (m - 1) + L = omega arith in
-    omega (arith, ap (λ (k : ℕ). k * (a.turns.now * 3)) e, c.requires.capsule_fits.within)
+    rw c.fill.ensures (omega (arith, ap (λ (k : ℕ). k * (a.n * 3)) e, c.requires.capsule_fits.within))

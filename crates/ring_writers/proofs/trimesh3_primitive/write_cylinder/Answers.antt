@@ -7,7 +7,7 @@ use Rattle.vec3.specs.Points.{coordinates, plus}
 use Rattle.rings.specs.Vertices.{level_vertex, pole}
 use Rattle.ring_writers.specs.ClosedCylinder.{cylinder_rings}
 use Rattle.ring_writers.proofs.Lengths.{length-rings, cylinder-parts}
-use Rattle.ring_writers.proofs.trimesh3_primitive.cylinder_closed_end_yup.Goals as goal
+use Rattle.ring_writers.proofs.trimesh3_primitive.write_cylinder.Goals as goal
 
 pub returns : goal.returns
 returns c =
